@@ -1,0 +1,5 @@
+pub mod Cases
+pub mod RefusalLaws
+pub mod GraphLaws
+pub mod Moves
+pub mod WalkLaws

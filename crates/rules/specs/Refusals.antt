@@ -1,0 +1,87 @@
+-- The refusals by number, in their order. Paper: 01, "Refusals by number, in this order".
+--
+--   Row, first rows        a number and whether it applies; the first that applies, 0 where none does
+--   tableRows F n s        1 and 2, of all steps; n is the report's length
+--   actorRows ts t         3, 4 and 5, of all steps
+--   childRows ts c         11 and 12
+--   newRows ps p           6 and 7
+--   getRows ps p           6 and 8
+--   ownRows B ps t p       6, 8, 9 and 10
+--   entryRows B ps t l i   6, 8, 9, 10 and 13, of entry i of an async list
+--   firstBad f n i         the first place from i on, below n, whose refusal by f is not 0; n where there is none
+-- Assumes nothing.
+use Prim.Native.Nat.{ℕ, zero, suc, _-_}
+use mathlib.Core.List.{List, [], _∷_, _++_}
+use mathlib.Core.Bool.{Bool, cond, not}
+use lib.Dec.{eqb, ltb}
+use lib.ListN.{length, getD}
+use Rattle.words.specs.Words.{Form, inBounds, unusedWord, unmadeWord, ownedBy}
+use Rattle.words.specs.Lists.{allBelow}
+use Rattle.rules.specs.Tables.{Tables, live, waiting, closed}
+use Rattle.rules.specs.Sound.{soundTest}
+
+abbrev pub Row : Type 0
+Row = ℕ × Bool
+
+-- "The first that applies, from the top, is the answer."
+unfoldable pub first : List Row → ℕ
+first [] = 0
+first ((r, applies) ∷ rows) = cond applies r (first rows)
+
+abbrev pub tableRows : Form → ℕ → Tables → List Row
+tableRows F n s =
+    (1, not (inBounds F (length (s .tasks)) (length (s .promises)) n))    -- "T, P or report length is outside its bounds"
+    ∷ (2, not (soundTest (F .base) s))                                      -- "tables damaged"
+    ∷ []
+
+abbrev pub actorRows : List ℕ → ℕ → List Row
+actorRows ts t =
+    (3, not (ltb t (length ts)))         -- "acting task not below T"
+    ∷ (4, not (live (getD ts t 0)))        -- "acting task never used or ended"
+    ∷ (5, waiting (getD ts t 0))           -- "acting task waits"
+    ∷ []
+
+abbrev pub childRows : List ℕ → ℕ → List Row
+childRows ts c =
+    (11, not (ltb c (length ts)))                  -- "child not below T"
+    ∷ (12, not (eqb (getD ts c 0) unusedWord))       -- "child's word is not 0"
+    ∷ []
+
+abbrev pub newRows : List ℕ → ℕ → List Row
+newRows ps p =
+    (6, not (ltb p (length ps)))                   -- "promise not below P"
+    ∷ (7, not (eqb (getD ps p 0) unmadeWord))        -- "promise already made"
+    ∷ []
+
+abbrev pub getRows : List ℕ → ℕ → List Row
+getRows ps p =
+    (6, not (ltb p (length ps)))             -- "promise not below P"
+    ∷ (8, eqb (getD ps p 0) unmadeWord)        -- "promise never made"
+    ∷ []
+
+abbrev pub ownRows : ℕ → List ℕ → ℕ → ℕ → List Row
+ownRows B ps t p =
+    (6, not (ltb p (length ps)))                   -- "promise not below P"
+    ∷ (8, eqb (getD ps p 0) unmadeWord)              -- "promise never made"
+    ∷ (9, closed B (getD ps p 0))                    -- "promise closed"
+    ∷ (10, not (eqb (getD ps p 0) (ownedBy t)))      -- "acting task is not the owner"
+    ∷ []
+
+-- entry j of the list is not q
+unfoldable pub differs : List ℕ → ℕ → ℕ → Bool
+differs list q j = not (eqb (getD list j 0) q)
+
+-- "each entry is tried for 6, 8, 9, 10, 13 in turn"
+abbrev pub entryRows : ℕ → List ℕ → ℕ → List ℕ → ℕ → List Row
+entryRows B ps t list i =
+    ownRows B ps t (getD list i 0)
+    ++ (13, not (allBelow i (differs list (getD list i 0))))    -- "entry equals an earlier one"
+    ∷ []
+
+unfoldable pub entryRefusal : ℕ → List ℕ → ℕ → List ℕ → ℕ → ℕ
+entryRefusal B ps t list i = first (entryRows B ps t list i)
+
+-- "the first bad one gives its refusal with its place, counted from 0"
+unfoldable pub firstBad : (ℕ → ℕ) → ℕ → ℕ → ℕ
+firstBad f zero i = i
+firstBad f (suc n) i = cond (eqb (f i) 0) (firstBad f n (suc i)) i

@@ -1,0 +1,156 @@
+-- The five steps: what each answers, the tables after it, and the report words. Paper: 01, "The five steps".
+--
+--   Step                    a step with its numbers
+--   Outcome                 the answer, the tables after it, and the words that the report then begins with
+--   withMade .. withEnded   the tables after an accepted step
+--   walk, Found             following owners, on behalf of a get
+--   pairs k s t p           the pairs of a ring
+--   rows F s x              the refusals from 3 on, of each step
+--   effect F s x            what the step does where none of them applies
+--   raw F s x, step F n s x the rules without and with refusals 1 and 2; n is the report's length
+--   run F n s xs            the tables after the steps xs
+-- Assumes nothing.
+use Prim.Native.Nat.{ℕ, zero, suc, _-_}
+use mathlib.Core.List.{List, [], _∷_, _++_}
+use mathlib.Core.Bool.{Bool, true, false, cond, _&&_}
+use lib.Dec.{eqb, leb, ltb}
+use lib.ListN.{length, getD, set}
+use Rattle.words.specs.Words.{Form, readyWord, endedWord, waitsOn, firstWait, setWord, ownedBy, firstOwned, blamedOn}
+use Rattle.words.specs.Lists.{is, places, replaced}
+use Rattle.rules.specs.Tables.{Tables, tables, taskAt, promiseAt, waiting, awaitedBy, ownerOf}
+use Rattle.rules.specs.Sound.{Hop, ready, lost, to, hop}
+use Rattle.rules.specs.Refusals.{Row, first, tableRows, actorRows, childRows, newRows, getRows, ownRows, entryRefusal, firstBad}
+use Rattle.rules.specs.declared.Answer.{Answer}
+use Rattle.rules.specs.declared.Answer.the-variants.{Made, Set, Value, Blamed, Waits, Cycle, Started, Ended, Refused, RefusedAt}
+
+pub data Step : Type 0 where
+  step-new step-set step-get : ℕ → ℕ → Step
+  step-async : ℕ → ℕ → List ℕ → Step
+  step-end : ℕ → Step
+
+-- the acting task
+abbrev pub actor : Step → ℕ
+actor (step-new t p) = t
+actor (step-set t p) = t
+actor (step-get t p) = t
+actor (step-async t c list) = t
+actor (step-end t) = t
+
+pub record Outcome : Type 0 where
+  pub answer : Answer
+  pub after : Tables
+  pub words : List ℕ
+
+abbrev pub outcome : Answer → Tables → List ℕ → Outcome
+outcome a s ws = record { answer = a; after = s; words = ws }
+
+-- ---- the tables after an accepted step
+
+-- "p becomes owned by t"
+abbrev pub withMade : Tables → ℕ → ℕ → Tables
+withMade s t p = tables (s .tasks) (set (s .promises) p (ownedBy t))
+
+-- "p becomes set and every task that waits on p becomes ready"
+abbrev pub withSet : Tables → ℕ → Tables
+withSet s p = tables (replaced (is (waitsOn p)) readyWord (s .tasks)) (set (s .promises) p setWord)
+
+-- "t now waits on p"
+abbrev pub withWait : Tables → ℕ → ℕ → Tables
+withWait s t p = tables (set (s .tasks) t (waitsOn p)) (s .promises)
+
+-- "every listed promise passes from t to c"
+unfoldable pub given : ℕ → List ℕ → List ℕ → List ℕ
+given w [] ps = ps
+given w (q ∷ list) ps = given w list (set ps q w)
+
+-- "child c becomes ready and every listed promise passes from t to c"
+abbrev pub withStarted : Tables → ℕ → List ℕ → Tables
+withStarted s c list = tables (set (s .tasks) c readyWord) (given (ownedBy c) list (s .promises))
+
+-- a task with the word w waits on a promise whose word is v
+unfoldable pub awaits : List ℕ → ℕ → ℕ → Bool
+awaits ps v w = waiting w && eqb (getD ps (w - firstWait) 0) v
+
+-- "t becomes ended. Each promise it owns becomes blamed on t, awaited or not (an omitted set). Each task that waits on one of these becomes ready."
+abbrev pub withEnded : ℕ → Tables → ℕ → Tables
+withEnded B s t =
+    tables (set (replaced (awaits (s .promises) (ownedBy t)) readyWord (s .tasks)) t endedWord) (replaced (is (ownedBy t)) (blamedOn B t) (s .promises))
+
+-- ---- following owners
+
+-- back to the asker, or to another ready task, with the number of owners reached. In damaged tables the way may be lost.
+pub data Found : Type 0 where
+  astray : Found
+  back free : ℕ → Found
+
+abbrev pub walkBy : Bool → Hop → ℕ → (ℕ → Found) → Found
+walkBy true h k on = back k
+walkBy false ready k on = free k
+walkBy false lost k on = astray
+walkBy false (to u) k on = on u
+
+-- "follow owners from p: t1 owns p, t2 owns what t1 awaits, and so on, until t or a ready task": from u, the k-th owner reached, at most n of them
+unfoldable pub walk : ℕ → Tables → ℕ → ℕ → ℕ → Found
+walk zero s t u k = astray
+walk (suc n) s t u k = walkBy (eqb u t) (hop s u) k (λ x. walk n s t x (suc k))
+
+-- "k pairs: t and p, then each next task on the way and what it awaits, up to the one that awaits a promise of t"
+unfoldable pub pairs : ℕ → Tables → ℕ → ℕ → List ℕ
+pairs zero s t p = []
+pairs (suc k) s t p = t ∷ p ∷ pairs k s (ownerOf s p) (awaitedBy s (ownerOf s p))
+
+-- "If t is reached, answer cycle k, the owners reached, t included. The tables stay unchanged and t stays ready. If a ready task other than t is reached,
+-- t now waits on p; answer waits k, the owners reached." Sound tables lead nobody astray; without the test of them such a wait is entered.
+unfoldable pub followed : Tables → ℕ → ℕ → Found → Outcome
+followed s t p (back k) = outcome (Cycle k) s (pairs k s t p)
+followed s t p (free k) = outcome (Waits k) (withWait s t p) []
+followed s t p astray = outcome (Waits (length (s .tasks))) (withWait s t p) []
+
+-- "if p is set, answer value. If p is blamed on b, answer blamed b. Otherwise follow owners from p"
+unfoldable pub got : ℕ → Tables → ℕ → ℕ → ℕ → Outcome
+got B s t p w =
+    cond (eqb w setWord) (outcome Value s [])
+    (cond (leb B w) (outcome (Blamed (w - B)) s [])
+    (followed s t p (walk (length (s .tasks)) s t (w - firstOwned) 1)))
+
+-- ---- the steps
+
+-- "Each refusal returns its number (and place) and writes to no table and no report."
+unfoldable pub guarded : ℕ → Tables → Outcome → Outcome
+guarded r s o = cond (eqb r 0) o (outcome (Refused r) s [])
+
+-- async, where i is the first bad place of the list. "Async moves all or nothing."
+unfoldable pub started : ℕ → Tables → ℕ → ℕ → List ℕ → ℕ → Outcome
+started B s t c list i =
+    cond (ltb i (length list)) (outcome (RefusedAt (entryRefusal B (s .promises) t list i) i) s [])
+    (outcome Started (withStarted s c list) [])
+
+-- the refusals of each step, after 1 and 2 and before those of a list entry
+abbrev pub rows : Form → Tables → Step → List Row
+rows F s (step-new t p) = actorRows (s .tasks) t ++ newRows (s .promises) p
+rows F s (step-set t p) = actorRows (s .tasks) t ++ ownRows (F .base) (s .promises) t p
+rows F s (step-get t p) = actorRows (s .tasks) t ++ getRows (s .promises) p
+rows F s (step-async t c list) = actorRows (s .tasks) t ++ childRows (s .tasks) c
+rows F s (step-end t) = actorRows (s .tasks) t
+
+-- what a step answers, does and reports
+abbrev pub effect : Form → Tables → Step → Outcome
+effect F s (step-new t p) = outcome Made (withMade s t p) []
+effect F s (step-set t p) = outcome (Set (length (places (is (waitsOn p)) 0 (s .tasks)))) (withSet s p) (places (is (waitsOn p)) 0 (s .tasks))
+effect F s (step-get t p) = got (F .base) s t p (promiseAt s p)
+effect F s (step-async t c list) = started (F .base) s t c list (firstBad (entryRefusal (F .base) (s .promises) t list) (length list) 0)
+effect F s (step-end t) =
+    outcome (Ended (length (places (is (ownedBy t)) 0 (s .promises))) (length (places (awaits (s .promises) (ownedBy t)) 0 (s .tasks)))) (withEnded (F .base) s t)
+    (places (is (ownedBy t)) 0 (s .promises) ++ places (awaits (s .promises) (ownedBy t)) 0 (s .tasks))
+
+-- the rules without refusals 1 and 2
+abbrev pub raw : Form → Tables → Step → Outcome
+raw F s x = guarded (first (rows F s x)) s (effect F s x)
+
+-- "Every step tests soundness before all but the bounds of refusal 1."
+abbrev pub step : Form → ℕ → Tables → Step → Outcome
+step F n s x = guarded (first (tableRows F n s)) s (raw F s x)
+
+abbrev pub run : Form → ℕ → Tables → List Step → Tables
+run F n s [] = s
+run F n s (x ∷ xs) = run F n (step F n s x .after) xs

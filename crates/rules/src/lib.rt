@@ -1,0 +1,15 @@
+// The answers of the steps. What each step answers, and when, stands in specs/; what is promised of it, in proofs/Promises.antt.
+
+// An answer; the counts and numbers that belong to it are in its cases, the lists are in the report.
+pub enum Answer {
+    Made,
+    Set(u16),
+    Value,
+    Blamed(u16),
+    Waits(u16),
+    Cycle(u16),
+    Started,
+    Ended { omitted: u16, woken: u16 },
+    Refused(u16),
+    RefusedAt { number: u16, place: u16 },
+}

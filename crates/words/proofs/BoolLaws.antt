@@ -1,0 +1,45 @@
+-- Tests joined by "and" and "or", put together and taken apart. Assumes nothing.
+use Prim.Native.Nat.{ℕ}
+use mathlib.Core.Path.{_≡_, refl}
+use mathlib.Core.Logic.{_⊎_, inl, inr}
+use mathlib.Core.Bool.{Bool, true, false, cond, _&&_, _||_}
+use native.Mathlib.Omega.{arith}
+
+pub true-is-not-false : true ≡ false → ⊥
+true-is-not-false e = let k : _≡_ {A = ℕ} 0 1 = cc in omega arith
+
+pub cond-true : {A : Type 0} (b : Bool) (x y : A) → b ≡ true → cond b x y ≡ x
+cond-true b x y e = rw e
+
+pub cond-false : {A : Type 0} (b : Bool) (x y : A) → b ≡ false → cond b x y ≡ y
+cond-false b x y e = rw e
+
+pub and-yes : (a b : Bool) → a ≡ true → b ≡ true → (a && b) ≡ true
+and-yes a b e f = rw (e, f)
+
+pub and-split : (a b : Bool) → (a && b) ≡ true → (a ≡ true) × (b ≡ true)
+and-split true b e = (refl, e)
+and-split false b e = (e, cc)
+
+pub and-no : (a b : Bool) → (a ≡ true → b ≡ true → ⊥) → (a && b) ≡ false
+and-no true true h = absurd (h refl refl)
+and-no true false h = refl
+and-no false b h = refl
+
+pub and-false : (b : Bool) → (b && false) ≡ false
+and-false true = refl
+and-false false = refl
+
+pub or-split : (a b : Bool) → (a || b) ≡ true → (a ≡ true) ⊎ (b ≡ true)
+or-split true b e = inl refl
+or-split false b e = inr e
+
+pub or-left : (a b : Bool) → a ≡ true → (a || b) ≡ true
+or-left a b e = rw e
+
+pub or-right : (a b : Bool) → b ≡ true → (a || b) ≡ true
+or-right true b e = refl
+or-right false b e = e
+
+pub or-no : (a b : Bool) → a ≡ false → b ≡ false → (a || b) ≡ false
+or-no a b e f = rw (e, f)

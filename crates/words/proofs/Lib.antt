@@ -1,0 +1,4 @@
+pub mod Tests
+pub mod BoolLaws
+pub mod ListLaws
+pub mod WordLaws

@@ -1,0 +1,69 @@
+-- The words of the two tables, and the bounds of a session. Paper: 01, "Tables and words".
+--
+--   unusedWord, readyWord, endedWord, waitsOn p    the words of the task table
+--   unmadeWord, setWord, ownedBy t, blamedOn B t   the words of the promise table; B is where the blamed words begin
+--   firstWait, firstOwned                          the word that waits on promise 0, the word owned by task 0
+--   Form, small                                    where the blamed words begin, and the limits
+--   inBounds F T P n                               T, P and the report's length n are within their bounds
+-- Assumes nothing.
+use Prim.Native.Nat.{ℕ, _+_, _*_}
+use mathlib.Core.Bool.{Bool, _&&_}
+use lib.Dec.{leb}
+
+-- ---- "task word"
+
+-- "0 never used"
+abbrev pub unusedWord : ℕ
+unusedWord = 0
+
+-- "1 ready"
+abbrev pub readyWord : ℕ
+readyWord = 1
+
+-- "2 ended"
+abbrev pub endedWord : ℕ
+endedWord = 2
+
+-- "16+p waits on p"
+abbrev pub firstWait : ℕ
+firstWait = 16
+
+abbrev pub waitsOn : ℕ → ℕ
+waitsOn p = firstWait + p
+
+-- ---- "promise word"
+
+-- "0 never made"
+abbrev pub unmadeWord : ℕ
+unmadeWord = 0
+
+-- "1 set"
+abbrev pub setWord : ℕ
+setWord = 1
+
+-- "16+t owned by t"
+abbrev pub firstOwned : ℕ
+firstOwned = 16
+
+abbrev pub ownedBy : ℕ → ℕ
+ownedBy t = firstOwned + t
+
+-- "80+t blamed on t": the base, 80 here, is a parameter of every rule
+abbrev pub blamedOn : ℕ → ℕ → ℕ
+blamedOn B t = B + t
+
+-- ---- the bounds
+
+-- where the blamed words begin, the most tasks and the most promises of a session
+pub record Form : Type 0 where
+  pub base : ℕ
+  pub mostTasks : ℕ
+  pub mostPromises : ℕ
+
+-- "T words (1 to 64)", "P words (0 to 256)"
+abbrev pub small : Form
+small = record { base = 80; mostTasks = 64; mostPromises = 256 }
+
+-- "a task table of T words, a promise table of P words and a report of at least P + 2T words"
+unfoldable pub inBounds : Form → ℕ → ℕ → ℕ → Bool
+inBounds F T P n = leb 1 T && leb T (F .mostTasks) && leb P (F .mostPromises) && leb (P + 2 * T) n
