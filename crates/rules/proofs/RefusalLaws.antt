@@ -15,7 +15,7 @@ use Rattle.words.specs.Words.{readyWord, firstWait, unusedWord, unmadeWord, own
 use Rattle.words.specs.Lists.{allBelow}
 use Rattle.words.proofs.BoolLaws.{or-split, true-is-not-false}
 use Rattle.rules.specs.Tables.{live, waiting, closed}
-use Rattle.rules.specs.Refusals.{Row, first, actorRows, childRows, newRows, getRows, ownRows, entryRows, entryRefusal, differs, firstBad}
+use Rattle.rules.specs.Refusals.{Row, first, earlier, actorRows, childRows, newRows, getRows, ownRows, entryRows, entryRefusal, differs, firstBad}
 
 pub not-is-false : (b : Bool) → not b ≡ false → b ≡ true
 not-is-false true e = refl
@@ -31,10 +31,6 @@ first-none r false rows n e = (refl, e)
 pub data Numbered : List Row → Type 0 where
   no-row : Numbered []
   row : {r : ℕ} {b : Bool} {rows : List Row} → r ≢ 0 → Numbered rows → Numbered ((r, b) ∷ rows)
-
--- the first of two refusals, where 0 is none
-unfoldable pub earlier : ℕ → ℕ → ℕ
-earlier a b = cond (eqb a 0) b a
 
 pub first-append : {xs : List Row} (ys : List Row) → Numbered xs → first (xs ++ ys) ≡ earlier (first xs) (first ys)
 unfolding first earlier

@@ -5,3 +5,4 @@ pub mod Answers
 pub mod Refusals
 pub mod Steps
 pub mod ProvedSet
+pub mod Contracts

@@ -1,6 +1,7 @@
 -- The refusals by number, in their order. Paper: 01, "Refusals by number, in this order".
 --
 --   Row, first rows        a number and whether it applies; the first that applies, 0 where none does
+--   earlier a b            the first of two refusals, where 0 is none
 --   tableRows F n s        1 and 2, of all steps; n is the report's length
 --   actorRows ts t         3, 4 and 5, of all steps
 --   childRows ts c         11 and 12
@@ -28,43 +29,46 @@ unfoldable pub first : List Row → ℕ
 first [] = 0
 first ((r, applies) ∷ rows) = cond applies r (first rows)
 
+unfoldable pub earlier : ℕ → ℕ → ℕ
+earlier a b = cond (eqb a 0) b a
+
 abbrev pub tableRows : Form → ℕ → Tables → List Row
 tableRows F n s =
-    (1, not (inBounds F (length (s .tasks)) (length (s .promises)) n))    -- "T, P or report length is outside its bounds"
-    ∷ (2, not (soundTest (F .base) s))                                      -- "tables damaged"
+    (1, not (inBounds F (length (s .tasks)) (length (s .promises)) n))  -- "T, P or report length is outside its bounds"
+    ∷ (2, not (soundTest (F .base) s))  -- "tables damaged"
     ∷ []
 
 abbrev pub actorRows : List ℕ → ℕ → List Row
 actorRows ts t =
-    (3, not (ltb t (length ts)))         -- "acting task not below T"
-    ∷ (4, not (live (getD ts t 0)))        -- "acting task never used or ended"
-    ∷ (5, waiting (getD ts t 0))           -- "acting task waits"
+    (3, not (ltb t (length ts)))  -- "acting task not below T"
+    ∷ (4, not (live (getD ts t 0)))  -- "acting task never used or ended"
+    ∷ (5, waiting (getD ts t 0))  -- "acting task waits"
     ∷ []
 
 abbrev pub childRows : List ℕ → ℕ → List Row
 childRows ts c =
-    (11, not (ltb c (length ts)))                  -- "child not below T"
-    ∷ (12, not (eqb (getD ts c 0) unusedWord))       -- "child's word is not 0"
+    (11, not (ltb c (length ts)))  -- "child not below T"
+    ∷ (12, not (eqb (getD ts c 0) unusedWord))  -- "child's word is not 0"
     ∷ []
 
 abbrev pub newRows : List ℕ → ℕ → List Row
 newRows ps p =
-    (6, not (ltb p (length ps)))                   -- "promise not below P"
-    ∷ (7, not (eqb (getD ps p 0) unmadeWord))        -- "promise already made"
+    (6, not (ltb p (length ps)))  -- "promise not below P"
+    ∷ (7, not (eqb (getD ps p 0) unmadeWord))  -- "promise already made"
     ∷ []
 
 abbrev pub getRows : List ℕ → ℕ → List Row
 getRows ps p =
-    (6, not (ltb p (length ps)))             -- "promise not below P"
-    ∷ (8, eqb (getD ps p 0) unmadeWord)        -- "promise never made"
+    (6, not (ltb p (length ps)))  -- "promise not below P"
+    ∷ (8, eqb (getD ps p 0) unmadeWord)  -- "promise never made"
     ∷ []
 
 abbrev pub ownRows : ℕ → List ℕ → ℕ → ℕ → List Row
 ownRows B ps t p =
-    (6, not (ltb p (length ps)))                   -- "promise not below P"
-    ∷ (8, eqb (getD ps p 0) unmadeWord)              -- "promise never made"
-    ∷ (9, closed B (getD ps p 0))                    -- "promise closed"
-    ∷ (10, not (eqb (getD ps p 0) (ownedBy t)))      -- "acting task is not the owner"
+    (6, not (ltb p (length ps)))  -- "promise not below P"
+    ∷ (8, eqb (getD ps p 0) unmadeWord)  -- "promise never made"
+    ∷ (9, closed B (getD ps p 0))  -- "promise closed"
+    ∷ (10, not (eqb (getD ps p 0) (ownedBy t)))  -- "acting task is not the owner"
     ∷ []
 
 -- entry j of the list is not q
@@ -75,7 +79,7 @@ differs list q j = not (eqb (getD list j 0) q)
 abbrev pub entryRows : ℕ → List ℕ → ℕ → List ℕ → ℕ → List Row
 entryRows B ps t list i =
     ownRows B ps t (getD list i 0)
-    ++ (13, not (allBelow i (differs list (getD list i 0))))    -- "entry equals an earlier one"
+    ++ (13, not (allBelow i (differs list (getD list i 0))))  -- "entry equals an earlier one"
     ∷ []
 
 unfoldable pub entryRefusal : ℕ → List ℕ → ℕ → List ℕ → ℕ → ℕ

@@ -2,3 +2,4 @@ pub mod Tests
 pub mod BoolLaws
 pub mod ListLaws
 pub mod WordLaws
+pub mod LoopLaws

@@ -1,0 +1,72 @@
+-- What a loop through a table holds after i turns, over any test and any change of a word: a law for the start, a turn and the end. Assumes nothing.
+use Prim.Native.Nat.{ℕ, _+_, _-_, _≤_, _<_}
+use mathlib.Core.Path.{_≡_, refl, sym, ap, _∙_}
+use mathlib.Core.List.{List, [], map}
+use mathlib.Core.Bool.{Bool, true, false}
+use native.Mathlib.Omega.{arith}
+use native.Mathlib.Numerals.{add-one}
+use native.Mathlib.Nat.{add-zero}
+use lib.ListN.{length, getD, set, drop, length-set}
+use lib.Seq.{sets}
+use Rattle.words.specs.Lists.{places}
+use Rattle.words.proofs.ListLaws.{mapped, mapped-none, mapped-more, mapped-get, mapped-all, mapped-length, places-step, places-end}
+
+-- ---- a loop that rewrites each word by g
+
+pub record Rewritten (g : ℕ → ℕ) (before now : List ℕ) (i : ℕ) : Type 0 where
+  pub within : i ≤ length before
+  pub same : length now ≡ length before
+  pub table : now ≡ mapped g i before
+
+module _ (g : ℕ → ℕ) where
+  pub rewritten-start : (ws : List ℕ) → Rewritten g ws ws 0
+  rewritten-start ws = record { within = omega arith; same = refl; table = mapped-none g ws }
+
+  pub rewritten-turn : {before now : List ℕ} {i x : ℕ} → Rewritten g before now i → i < length before → x ≡ g (getD now i 0) → Rewritten g before (set now i x) (i + 1)
+  rewritten-turn {before} {now} {i} {x} r h e = record {
+    within = omega arith;
+    same = length-set now i x ∙ r .same;
+    table = rw (e, r .table, mapped-get) (mapped-more g i before);
+  }
+
+  pub rewritten-end : {before now : List ℕ} {i : ℕ} → Rewritten g before now i → length before ≤ i → now ≡ map g before
+  rewritten-end {before} {now} {i} r h =
+      let e : i ≡ length before = omega (arith, r .within) in
+      r .table ∙ ap (λ (k : ℕ). mapped g k before) e ∙ mapped-all g before
+
+-- ---- a loop that writes the places of the words that pass f, from `from` on
+
+pub record Collected (f : ℕ → Bool) (ws before : List ℕ) (from : ℕ) (now : List ℕ) (i n : ℕ) : Type 0 where
+  pub within : i ≤ length ws
+  pub least : from ≤ n
+  pub most : n ≤ from + i
+  pub same : length now ≡ length before
+  pub counted : from + length (places f 0 ws) ≡ n + length (places f i (drop i ws))
+  pub written : sets before from (places f 0 ws) ≡ sets now n (places f i (drop i ws))
+
+module _ (f : ℕ → Bool) where
+  pub collected-start : (ws before : List ℕ) (from : ℕ) → Collected f ws before from before 0 from
+  collected-start ws before from = record { within = omega arith; least = omega arith; most = omega arith; same = refl; counted = refl; written = refl }
+
+  pub collected-hit : {ws before now : List ℕ} {from i n : ℕ} → Collected f ws before from now i n → i < length ws → f (getD ws i 0) ≡ true → Collected f ws before from (set now n i) (i + 1) (n + 1)
+  collected-hit {ws} {before} {now} {from} {i} {n} c h e =
+      let s = places-step f ws i h in
+      record {
+        within = omega arith;
+        least = omega (arith, c .least);
+        most = omega (arith, c .most);
+        same = length-set now n i ∙ c .same;
+        counted = rw (c .counted, s, e) (omega arith);
+        written = rw (c .written, s, e, add-one n);
+      }
+
+  pub collected-miss : {ws before now : List ℕ} {from i n : ℕ} → Collected f ws before from now i n → i < length ws → f (getD ws i 0) ≡ false → Collected f ws before from now (i + 1) n
+  collected-miss {ws} {before} {now} {from} {i} {n} c h e =
+      let s = places-step f ws i h in
+      record { within = omega arith; least = c .least; most = omega (arith, c .most); same = c .same; counted = rw (c .counted, s, e); written = rw (c .written, s, e) }
+
+  pub collected-end : {ws before now : List ℕ} {from i n : ℕ} → Collected f ws before from now i n → length ws ≤ i
+      → (n ≡ from + length (places f 0 ws)) × (now ≡ sets before from (places f 0 ws))
+  collected-end {ws} {before} {now} {from} {i} {n} c h =
+      let e = places-end f ws i h in
+      rw (c .counted, c .written, e) (omega arith, refl)
