@@ -3,3 +3,4 @@ pub mod RefusalLaws
 pub mod GraphLaws
 pub mod Moves
 pub mod WalkLaws
+pub mod StepMoves
