@@ -4,3 +4,4 @@ pub mod GraphLaws
 pub mod Moves
 pub mod WalkLaws
 pub mod StepMoves
+pub mod SoundTest
