@@ -5,3 +5,4 @@ pub mod Moves
 pub mod WalkLaws
 pub mod StepMoves
 pub mod SoundTest
+pub mod Accepted

@@ -87,7 +87,7 @@ module _ (B : ℕ) (s : Tables) (t : ℕ) where
       go true e = yes (awaits-true (s .promises) (ownedBy t) (taskAt s v) e)
       go false e = no (λ k. true-is-not-false (sym (awaits-hit (s .promises) (ownedBy t) (taskAt s v) (k .0) (k .1) (k .2)) ∙ e))
 
-  abbrev woken : List ℕ
+  abbrev pub woken : List ℕ
   woken = replaced (awaits (s .promises) (ownedBy t)) readyWord (s .tasks)
 
   module _ (v : ℕ) (other : v ≢ t) where

@@ -286,3 +286,8 @@ within-table ws v h = go (decLt v (length ws))
     go : Dec (v < length ws) → v < length ws
     go (yes b) = b
     go (no m) = absurd (h (List·getD-eq-default ws 0 (omega arith)))
+
+-- where a number of a list stands
+pub in-place : {x : ℕ} {xs : List ℕ} → In x xs → (j : ℕ) × (j < length xs) × (getD xs j 0 ≡ x)
+in-place (top {xs = xs}) = (0, omega arith, refl)
+in-place (pop i) = let (j, h, e) = in-place i in (suc j, omega arith, e)
