@@ -6,3 +6,6 @@ pub mod WalkLaws
 pub mod StepMoves
 pub mod SoundTest
 pub mod Accepted
+pub mod Kept
+pub mod Waiting
+pub mod InTurn

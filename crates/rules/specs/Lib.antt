@@ -5,4 +5,5 @@ pub mod Answers
 pub mod Refusals
 pub mod Steps
 pub mod ProvedSet
+pub mod Demands
 pub mod Contracts

@@ -1,0 +1,110 @@
+-- Every step keeps sound tables sound, fresh tables are sound, and so are the tables after any steps from fresh ones. Assumes nothing.
+use mathlib.Core.Path.{_≡_, refl, sym, ap, subst, subst₂, _∙_}
+use mathlib.Core.Logic.{_⊎_, inl, inr, _≢_}
+use mathlib.Core.List.{List, [], _∷_}
+use mathlib.Core.Bool.{Bool, true, false, not}
+use Prim.Native.Nat.{ℕ, zero, suc, _+_, _*_, _≤_, _<_}
+use native.Mathlib.Omega.{arith}
+use native.Mathlib.Decide.{ℕ-discrete, decLt}
+use lib.ListN.{length, getD, set, replicate, length-set, length-replicate, getD-replicate, List·getD-eq-default}
+use lib.Seq.{getD-set-same, getD-set-other}
+use Rattle.words.specs.Words.{Form, inBounds, unusedWord, readyWord, waitsOn, firstOwned, unmadeWord}
+use Rattle.words.proofs.WordLaws.{Bounds, inBounds-true, inBounds-of}
+use Rattle.rules.specs.Tables.{Tables, taskAt, promiseAt, fresh}
+use Rattle.rules.specs.Chains.{view}
+use Rattle.rules.specs.Sound.{TaskWord, unused, ready, unmade, SoundView, Sound, soundTest}
+use Rattle.rules.specs.Refusals.{first, tableRows}
+use Rattle.rules.specs.Steps.{Step, actor, raw, step, run}
+use Rattle.rules.specs.Demands.{Apart, Good}
+use Rattle.rules.proofs.Accepted.{Took, stayed, moved, guarded-is, took-raw}
+use Rattle.rules.proofs.Moves.{sound-step}
+use Rattle.rules.proofs.RefusalLaws.{first-none, not-is-false}
+
+module _ (F : Form) (apart : Apart F) (n : ℕ) where
+  -- the owned words of tables within their bounds end before the blamed ones begin
+  pub fits : (s : Tables) → inBounds F (length (s .tasks)) (length (s .promises)) n ≡ true → firstOwned + length (s .tasks) ≤ F .base
+  fits s b = omega (arith, apart, inBounds-true F (length (s .tasks)) (length (s .promises)) n b .tasks)
+
+  -- refusal 1 is not given
+  bounds-of : (s : Tables) → first (tableRows F n s) ≡ 0 → inBounds F (length (s .tasks)) (length (s .promises)) n ≡ true
+  bounds-of s e = not-is-false _ (first-none 1 (not (inBounds F (length (s .tasks)) (length (s .promises)) n)) _ (λ (z : _≡_ {A = ℕ} 1 0). omega arith) e .0)
+
+  -- each step of any task, with any numbers, from any sound tables
+  pub took-step : (s : Tables) → Sound (F .base) s → (x : Step) → Took (F .base) s (actor x) (step F n s x .after)
+  took-step s sd x = guarded-is (first (tableRows F n s)) s (raw F s x) (Took (F .base) s (actor x)) (stayed refl) (λ e. took-raw F s (fits s (bounds-of s e)) sd x)
+
+  sound-by : (s s′ : Tables) (t : ℕ) → firstOwned + length (s .tasks) ≤ F .base → Sound (F .base) s → Took (F .base) s t s′ → Sound (F .base) s′
+  sound-by s s′ t f sd (stayed e) = subst (Sound (F .base)) (sym e) sd
+  sound-by s s′ t f sd (moved e g st) =
+      subst₂ (λ (x y : ℕ). SoundView x y (F .base) (view s′)) (sym e) (sym g)
+      (sound-step (length (s .tasks)) (length (s .promises)) (F .base) f (view s) (view s′) t sd st)
+
+  -- a step leaves the tables sound, from any sound tables
+  pub sound-kept : (s : Tables) → Sound (F .base) s → (x : Step) → Sound (F .base) (step F n s x .after)
+  sound-kept s sd x =
+      guarded-is (first (tableRows F n s)) s (raw F s x) (Sound (F .base)) sd
+      (λ e. sound-by s (raw F s x .after) (actor x) (fits s (bounds-of s e)) sd (took-raw F s (fits s (bounds-of s e)) sd x))
+
+  -- and as long as they were
+  lengths-by : (s s′ : Tables) (t : ℕ) → Took (F .base) s t s′ → (length (s′ .tasks) ≡ length (s .tasks)) × (length (s′ .promises) ≡ length (s .promises))
+  lengths-by s s′ t (stayed e) = (ap (λ (x : Tables). length (x .tasks)) e, ap (λ (x : Tables). length (x .promises)) e)
+  lengths-by s s′ t (moved e g st) = (e, g)
+
+  pub good-step : (s : Tables) (x : Step) → Good F n s → Good F n (step F n s x .after)
+  good-step s x g =
+      let (a, b) = lengths-by s (step F n s x .after) (actor x) (took-step s (g .sound) x) in
+      record {
+        bounds = subst₂ (λ (i j : ℕ). inBounds F i j n ≡ true) (sym a) (sym b) (g .bounds);
+        sound = sound-kept s (g .sound) x;
+      }
+
+  pub good-run : (s : Tables) (xs : List Step) → Good F n s → Good F n (run F n s xs)
+  good-run s [] g = g
+  good-run s (x ∷ xs) g = good-run (step F n s x .after) xs (good-step s x g)
+
+-- ---- fresh tables
+
+zeros : (m v : ℕ) → getD {A = ℕ} (replicate m 0) v 0 ≡ 0
+zeros m v = go (decLt v m)
+  where
+    go : Dec (v < m) → getD {A = ℕ} (replicate m 0) v 0 ≡ 0
+    go (yes h) = getD-replicate m v 0 0 h
+    go (no k) = List·getD-eq-default (replicate m 0) 0 (omega (arith, length-replicate {A = ℕ} m 0))
+
+module _ (T P : ℕ) (some : 1 ≤ T) where
+  fresh-task : (v : ℕ) → (taskAt (fresh T P) v ≡ unusedWord) ⊎ (taskAt (fresh T P) v ≡ readyWord)
+  fresh-task v = go (ℕ-discrete v 0)
+    where
+      go : Dec (v ≡ 0) → (taskAt (fresh T P) v ≡ unusedWord) ⊎ (taskAt (fresh T P) v ≡ readyWord)
+      go (yes e) = inr (ap (taskAt (fresh T P)) e ∙ getD-set-same (replicate T 0) 0 readyWord 0 (omega (arith, length-replicate {A = ℕ} T 0)))
+      go (no k) = inl (getD-set-other (replicate T 0) 0 v readyWord 0 k ∙ zeros T v)
+
+  none-waits : (v p : ℕ) → taskAt (fresh T P) v ≡ waitsOn p → (taskAt (fresh T P) v ≡ unusedWord) ⊎ (taskAt (fresh T P) v ≡ readyWord) → ⊥
+  none-waits v p w (inl e) = omega arith
+  none-waits v p w (inr e) = omega arith
+
+  fresh-word : (m v : ℕ) → (taskAt (fresh T P) v ≡ unusedWord) ⊎ (taskAt (fresh T P) v ≡ readyWord) → TaskWord m (taskAt (fresh T P) v)
+  fresh-word m v (inl e) = unused e
+  fresh-word m v (inr e) = ready e
+
+  pub fresh-sound : (B : ℕ) → firstOwned ≤ B → Sound B (fresh T P)
+  fresh-sound B b = record {
+    taskWord = λ v. fresh-word _ v (fresh-task v);
+    promiseWord = λ q. unmade (zeros P q);
+    ownerLive = λ q u h o. absurd (omega (arith, zeros P q));
+    awaitedOwned = λ v p w. absurd (none-waits v p w (fresh-task v));
+    blamedEnded = λ q u h o. absurd (omega (arith, zeros P q));
+    chainComes = λ v p w. absurd (none-waits v p w (fresh-task v));
+  }
+
+  pub fresh-good : (F : Form) → Apart F → (n : ℕ) → T ≤ F .mostTasks → P ≤ F .mostPromises → P + 2 * T ≤ n → Good F n (fresh T P)
+  fresh-good F apart n most most′ room = record {
+    bounds = subst₂ (λ (i j : ℕ). inBounds F i j n ≡ true) (sym lt) (sym lp) (inBounds-of F T P n (record { some = some; tasks = most; promises = most′; room = room }));
+    sound = fresh-sound (F .base) (omega (arith, apart));
+  }
+    where
+      lt : length (fresh T P .tasks) ≡ T
+      lt = length-set (replicate T 0) 0 readyWord ∙ length-replicate {A = ℕ} T 0
+
+      lp : length (fresh T P .promises) ≡ P
+      lp = length-replicate {A = ℕ} P 0

@@ -1,0 +1,122 @@
+-- What is demanded of the rules, as statements. The theorems stand in proofs/Promises.antt.
+--
+--   Apart F, Good F n s                 a form whose owned and blamed words do not meet; tables within their bounds, and sound
+--   FirstGiven r rows                   r is the number of the first row that applies
+--   BadPlace B s t list i               i is the first bad place of an async list
+--   Refusal a                           the answer a is a refusal
+--   OwnersFrom s p l                    l are the owners that follow from p, to a ready task
+--   Ring s t p l ws                     ws are the pairs of the ring that t would close by waiting on p
+--   Alarm, Named, Woken, Demand3        what an alarm, an end, a set means; demand 3
+-- Assumes nothing.
+use mathlib.Core.Path.{_≡_}
+use mathlib.Core.Logic.{_⊎_, _≢_}
+use mathlib.Core.List.{List, [], _∷_, _++_}
+use mathlib.Core.Bool.{Bool, true, false}
+use Prim.Native.Nat.{ℕ, suc, _+_, _-_, _≤_, _<_}
+use lib.ListN.{length, take}
+use Rattle.words.specs.Words.{Form, inBounds, readyWord, waitsOn, firstOwned, ownedBy, blamedOn}
+use Rattle.words.specs.Lists.{In, Rising}
+use Rattle.rules.specs.Tables.{Tables, taskAt, promiseAt, liveTasks}
+use Rattle.rules.specs.Chains.{Chain, chainEnd, waits}
+use Rattle.rules.specs.Sound.{Live, Sound}
+use Rattle.rules.specs.Refusals.{Row, entryRows, entryRefusal}
+use Rattle.rules.specs.Steps.{Step, step-end, actor, Outcome, outcome, step, run}
+use Rattle.rules.specs.declared.Answer.{Answer}
+use Rattle.rules.specs.declared.Answer.the-variants.{Ended, Refused, RefusedAt}
+
+abbrev pub Apart : Form → Type 0
+Apart F = firstOwned + F .mostTasks ≤ F .base
+
+pub record Good (F : Form) (n : ℕ) (s : Tables) : Type 0 where
+  pub bounds : inBounds F (length (s .tasks)) (length (s .promises)) n ≡ true
+  pub sound : Sound (F .base) s
+
+-- ---- demand 1: "Bad input is refused by number in a fixed order; a refusal changes no table and no report"
+
+pub data FirstGiven (r : ℕ) : List Row → Type 0 where
+  now : {rows : List Row} → FirstGiven r ((r, true) ∷ rows)
+  later : {q : ℕ} {rows : List Row} → FirstGiven r rows → FirstGiven r ((q, false) ∷ rows)
+
+-- none of the rows applies
+pub data NoneGiven : List Row → Type 0 where
+  no-row : NoneGiven []
+  not-this : {q : ℕ} {rows : List Row} → NoneGiven rows → NoneGiven ((q, false) ∷ rows)
+
+-- "the list is read from its first entry; .. the first bad one gives its refusal with its place, counted from 0"
+pub record BadPlace (B : ℕ) (ps : List ℕ) (t : ℕ) (list : List ℕ) (r i : ℕ) : Type 0 where
+  pub within : i < length list
+  pub earlier : (j : ℕ) → j < i → NoneGiven (entryRows B ps t list j)
+  pub given : FirstGiven r (entryRows B ps t list i)
+
+pub data Refusal : Answer → Type 0 where
+  plain : (r : ℕ) → Refusal (Refused r)
+  placed : (r i : ℕ) → Refusal (RefusedAt r i)
+
+-- ---- demand 2: "A get alarms exactly when the chain of owners and waits leads back to the asker."
+
+-- "t1 owns p, t2 owns what t1 awaits, and so on, until .. a ready task"
+pub data OwnersFrom (s : Tables) (p : ℕ) : List ℕ → Type 0 where
+  owners : {u : ℕ} {l : List ℕ} → u < length (s .tasks) → promiseAt s p ≡ ownedBy u → Chain (waits s) u l → OwnersFrom s p (u ∷ l)
+
+-- "k pairs: t and p, then each next task on the way and what it awaits, up to the one that awaits a promise of t"
+pub data Ring (s : Tables) : ℕ → ℕ → List ℕ → List ℕ → Type 0 where
+  closes : {v p u : ℕ} → promiseAt s p ≡ ownedBy u → Ring s v p (u ∷ []) (v ∷ p ∷ [])
+  leads : {v p u q : ℕ} {l ws : List ℕ} → promiseAt s p ≡ ownedBy u → taskAt s u ≡ waitsOn q → Ring s u q l ws → Ring s v p (u ∷ l) (v ∷ p ∷ ws)
+
+-- t gets p and alarms after k owners: t is ready and not refused, the owners from p lead back to t, and the report shows that ring
+pub record Alarm (s : Tables) (t p k : ℕ) (ws : List ℕ) : Type 0 where
+  pub ready : taskAt s t ≡ readyWord
+  pub links : List ℕ
+  pub owners : OwnersFrom s p links
+  pub back : chainEnd t links ≡ t
+  pub count : k ≡ length links
+  pub ring : Ring s t p links ws
+
+-- "A task that ends still owning promises is named for exactly those": m promises, then n tasks
+pub record Named (B : ℕ) (s : Tables) (t m n : ℕ) (o : Outcome) : Type 0 where
+  pub omitted : List ℕ
+  pub woken : List ℕ
+  pub words : o .words ≡ omitted ++ woken
+  pub counts : (m ≡ length omitted) × (n ≡ length woken)
+  pub rising : Rising omitted × Rising woken
+  pub owned : (q : ℕ) → In q omitted → promiseAt s q ≡ ownedBy t
+  pub all-owned : (q : ℕ) → promiseAt s q ≡ ownedBy t → In q omitted
+  pub blamed : (q : ℕ) → promiseAt (o .after) q ≡ blamedOn B t → In q omitted
+  pub all-blamed : (q : ℕ) → In q omitted → promiseAt (o .after) q ≡ blamedOn B t
+  pub waited : (v : ℕ) → In v woken → (p : ℕ) × (taskAt s v ≡ waitsOn p) × (promiseAt s p ≡ ownedBy t)
+  pub all-waited : (v p : ℕ) → taskAt s v ≡ waitsOn p → promiseAt s p ≡ ownedBy t → In v woken
+  pub all-ready : (v : ℕ) → In v woken → taskAt (o .after) v ≡ readyWord
+
+-- "every task that waits on p becomes ready. Answer: how many; the report holds them, rising"
+pub record Woken (s : Tables) (p n : ℕ) (o : Outcome) : Type 0 where
+  pub count : n ≡ length (o .words)
+  pub rising : Rising (o .words)
+  pub waited : (v : ℕ) → In v (o .words) → taskAt s v ≡ waitsOn p
+  pub all-waited : (v : ℕ) → taskAt s v ≡ waitsOn p → In v (o .words)
+  pub all-ready : (v : ℕ) → In v (o .words) → taskAt (o .after) v ≡ readyWord
+
+-- ---- demand 3
+
+-- the ends of the tasks of a chain, farthest first
+abbrev pub ends : List ℕ → List Step
+ends [] = []
+ends (u ∷ l) = ends l ++ step-end u ∷ []
+
+-- each of the steps is an end that is accepted when its turn comes
+pub data AllEnd (F : Form) (n : ℕ) : Tables → List Step → Type 0 where
+  no-end : {s : Tables} → AllEnd F n s []
+  an-end : {s : Tables} {x : Step} {xs : List Step} (m k : ℕ) → step F n s x .answer ≡ Ended m k → AllEnd F n (step F n s x .after) xs → AllEnd F n s (x ∷ xs)
+
+pub record Demand3 (F : Form) (n : ℕ) (s : Tables) : Type 0 where
+  -- "while a task is live, some live task is ready"
+  pub some-ready : (v : ℕ) → Live (taskAt s v) → (e : ℕ) × (taskAt s e ≡ readyWord)
+  -- "each waiting task has one chain to a ready task, with at most one link fewer than live tasks"
+  pub one-chain : (v p : ℕ) → taskAt s v ≡ waitsOn p
+      → (l : List ℕ) × Chain (waits s) v l × ((l′ : List ℕ) → Chain (waits s) v l′ → l ≡ l′) × (suc (length l) ≤ liveTasks s)
+  -- "no step by any task but the one at its end alters that chain": its links stay, and so does the word of each task on it and of each promise between them
+  pub kept : (x : Step) (v : ℕ) (l : List ℕ) → Chain (waits s) v l → actor x ≢ chainEnd v l
+      → Chain (waits (step F n s x .after)) v l × ((y : ℕ) → In y (v ∷ l) → taskAt (step F n s x .after) y ≡ taskAt s y)
+      × ((y p : ℕ) → In y (v ∷ l) → taskAt s y ≡ waitsOn p → promiseAt (step F n s x .after) p ≡ promiseAt s p)
+  -- "ending its k tasks in turn, farthest first, makes the waiter ready at the k-th end and no sooner"
+  pub in-turn : (v : ℕ) (l : List ℕ) → Chain (waits s) v l
+      → AllEnd F n s (ends l) × ((j : ℕ) → j < length l → taskAt (run F n s (take j (ends l))) v ≡ taskAt s v) × (taskAt (run F n s (ends l)) v ≡ readyWord)
