@@ -9,3 +9,5 @@ pub mod Accepted
 pub mod Kept
 pub mod Waiting
 pub mod InTurn
+pub mod Order
+pub mod Alarms
