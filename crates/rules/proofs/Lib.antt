@@ -11,3 +11,4 @@ pub mod Waiting
 pub mod InTurn
 pub mod Order
 pub mod Alarms
+pub mod Named

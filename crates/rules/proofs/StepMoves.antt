@@ -63,7 +63,7 @@ read-given w (x ∷ l) ps h q = go (read-given w l (set ps x w) (λ y i. lt-leng
 -- ---- what set and end make of a word
 
 module _ (s : Tables) (p v : ℕ) where
-  set-hit : taskAt s v ≡ waitsOn p → taskAt (withSet s p) v ≡ readyWord
+  pub set-hit : taskAt s v ≡ waitsOn p → taskAt (withSet s p) v ≡ readyWord
   set-hit e = replaced-hit (is (waitsOn p)) readyWord (s .tasks) v (is-zero p) (is-hit (waitsOn p) (taskAt s v) e)
 
   set-miss : taskAt s v ≢ waitsOn p → taskAt (withSet s p) v ≡ taskAt s v

@@ -1,0 +1,119 @@
+-- Demand 2 over the definitions, its last sentence: a task that ends is named for exactly the promises that it owned, and whoever waited on one of them is made
+-- ready; a set makes ready exactly those who waited on it. Assumes nothing.
+use mathlib.Core.Path.{_≡_, refl, sym, ap, subst, _∙_}
+use mathlib.Core.Logic.{_≢_}
+use mathlib.Core.List.{List, [], _∷_, _++_}
+use mathlib.Core.Bool.{Bool, true, false}
+use Prim.Native.Nat.{ℕ, zero, suc, _+_, _-_, _≤_, _<_}
+use native.Mathlib.Omega.{arith}
+use native.Mathlib.Nat.{sub-zero}
+use native.Mathlib.Decide.{ℕ-discrete}
+use lib.ListN.{length, getD}
+use Rattle.words.specs.Words.{Form, readyWord, endedWord, waitsOn, ownedBy, blamedOn}
+use Rattle.words.specs.Lists.{is, places, In, Rising}
+use Rattle.words.proofs.ListLaws.{is-hit, is-true, At, places-at, at-places, places-rising, within-table}
+use Rattle.rules.specs.Tables.{Tables, taskAt, promiseAt}
+use Rattle.rules.specs.Sound.{Sound}
+use Rattle.rules.specs.Refusals.{first, tableRows, actorRows, ownRows}
+use Rattle.rules.specs.Steps.{Step, step-set, step-end, Outcome, awaits, withSet, withEnded, guarded, rows, effect, raw, step}
+use Rattle.rules.specs.Demands.{Named, Woken}
+use Rattle.rules.specs.declared.Answer.{Answer}
+use Rattle.rules.specs.declared.Answer.the-variants.{Set, Ended, Refused}
+use Rattle.rules.proofs.Order.{clash, guarded-none, guarded-some}
+use Rattle.rules.proofs.RefusalLaws.{actorRows-none, ownRows-none}
+use Rattle.rules.proofs.StepMoves.{awaits-hit, awaits-true, set-hit, blame-hit, blame-miss, end-hit}
+
+-- ---- the places of a table, by the words that they hold
+
+place-passes : (f : ℕ → Bool) (ws : List ℕ) (x : ℕ) → In x (places f 0 ws) → f (getD ws x 0) ≡ true
+place-passes f ws x i = subst (λ (k : ℕ). f (getD ws k 0) ≡ true) (sub-zero x) (places-at f 0 ws x i .passes)
+
+passes-place : (f : ℕ → Bool) (ws : List ℕ) (x : ℕ) → x < length ws → f (getD ws x 0) ≡ true → In x (places f 0 ws)
+passes-place f ws x h e =
+    at-places f 0 ws x (record { from = omega arith; within = omega arith; passes = subst (λ (k : ℕ). f (getD ws k 0) ≡ true) (sym (sub-zero x)) e })
+
+-- ---- an answer that is no refusal comes from the effect
+
+guarded-let : (r : ℕ) (s : Tables) (o : Outcome) (a : Answer) → ((q : ℕ) → Refused q ≡ a → ⊥) → guarded r s o .answer ≡ a → (r ≡ 0) × (guarded r s o ≡ o)
+guarded-let r s o a h e = go (ℕ-discrete r 0)
+  where
+    go : Dec (r ≡ 0) → (r ≡ 0) × (guarded r s o ≡ o)
+    go (yes z) = (z, guarded-none r s o z)
+    go (no n) = absurd (h r (sym (ap (λ (x : Outcome). x .answer) (guarded-some r s o n)) ∙ e))
+
+pub accepted : (F : Form) (n : ℕ) (s : Tables) (x : Step) (a : Answer) → ((q : ℕ) → Refused q ≡ a → ⊥) → step F n s x .answer ≡ a
+    → (first (rows F s x) ≡ 0) × (step F n s x ≡ effect F s x)
+accepted F n s x a h e =
+    let (z, o) = guarded-let (first (tableRows F n s)) s (raw F s x) a h e in
+    let (z₁, o₁) = guarded-let (first (rows F s x)) s (effect F s x) a h (sym (ap (λ (y : Outcome). y .answer) o) ∙ e) in
+    (z₁, o ∙ o₁)
+
+-- ---- set
+
+pub set-wakes : (F : Form) (n : ℕ) (s : Tables) (t p m : ℕ) → step F n s (step-set t p) .answer ≡ Set m → Woken s p m (step F n s (step-set t p))
+set-wakes F n s t p m e =
+    let (z, o) = accepted F n s (step-set t p) (Set m) (λ q (y : Refused q ≡ Set m). clash cc) e in
+    subst (Woken s p m) (sym o) (woken (sym (ap (λ (y : Outcome). y .answer) o) ∙ e))
+  where
+    ws : List ℕ
+    ws = places (is (waitsOn p)) 0 (s .tasks)
+
+    waited : (v : ℕ) → In v ws → taskAt s v ≡ waitsOn p
+    waited v i = is-true (waitsOn p) (taskAt s v) (place-passes (is (waitsOn p)) (s .tasks) v i)
+
+    woken : Set (length ws) ≡ Set m → Woken s p m (effect F s (step-set t p))
+    woken a = record {
+      count = sym cc;
+      rising = places-rising (is (waitsOn p)) 0 (s .tasks);
+      waited = waited;
+      all-waited = λ v w. passes-place (is (waitsOn p)) (s .tasks) v (within-table (s .tasks) v (λ (y : taskAt s v ≡ 0). omega arith)) (is-hit (waitsOn p) (taskAt s v) w);
+      all-ready = λ v i. set-hit s p v (waited v i);
+    }
+
+-- ---- end
+
+pub end-names : (F : Form) (n : ℕ) (s : Tables) → Sound (F .base) s → (t m k : ℕ) → step F n s (step-end t) .answer ≡ Ended m k → Named (F .base) s t m k (step F n s (step-end t))
+end-names F n s sd t m k e =
+    let (z, o) = accepted F n s (step-end t) (Ended m k) (λ q (y : Refused q ≡ Ended m k). clash cc) e in
+    let (act, z₁) = actorRows-none (s .tasks) t [] z in
+    subst (Named (F .base) s t m k) (sym o) (named (act .below) (act .ready) (sym (ap (λ (y : Outcome). y .answer) o) ∙ e))
+  where
+    B : ℕ
+    B = F .base
+
+    mine : List ℕ
+    mine = places (is (ownedBy t)) 0 (s .promises)
+
+    theirs : List ℕ
+    theirs = places (awaits (s .promises) (ownedBy t)) 0 (s .tasks)
+
+    owned : (q : ℕ) → In q mine → promiseAt s q ≡ ownedBy t
+    owned q i = is-true (ownedBy t) (promiseAt s q) (place-passes (is (ownedBy t)) (s .promises) q i)
+
+    all-owned : (q : ℕ) → promiseAt s q ≡ ownedBy t → In q mine
+    all-owned q w = passes-place (is (ownedBy t)) (s .promises) q (within-table (s .promises) q (λ (y : promiseAt s q ≡ 0). omega arith)) (is-hit (ownedBy t) (promiseAt s q) w)
+
+    waited : (v : ℕ) → In v theirs → (p : ℕ) × (taskAt s v ≡ waitsOn p) × (promiseAt s p ≡ ownedBy t)
+    waited v i = awaits-true (s .promises) (ownedBy t) (taskAt s v) (place-passes (awaits (s .promises) (ownedBy t)) (s .tasks) v i)
+
+    -- nobody ready was blamed before
+    blamed : t < length (s .tasks) → taskAt s t ≡ readyWord → (q : ℕ) → promiseAt (withEnded (F .base) s t) q ≡ blamedOn (F .base) t → Dec (promiseAt s q ≡ ownedBy t) → In q mine
+    blamed b r q w (yes y) = all-owned q y
+    blamed b r q w (no y) = absurd (omega (arith, sd .blamedEnded q t b (sym (blame-miss (F .base) s t q y) ∙ w)))
+
+    named : t < length (s .tasks) → taskAt s t ≡ readyWord → Ended (length mine) (length theirs) ≡ Ended m k → Named (F .base) s t m k (effect F s (step-end t))
+    named b r a = record {
+      omitted = mine;
+      woken = theirs;
+      words = refl;
+      counts = (sym cc, sym cc);
+      rising = (places-rising (is (ownedBy t)) 0 (s .promises), places-rising (awaits (s .promises) (ownedBy t)) 0 (s .tasks));
+      owned = owned;
+      all-owned = all-owned;
+      blamed = λ q w. blamed b r q w (ℕ-discrete (promiseAt s q) (ownedBy t));
+      all-blamed = λ q i. blame-hit (F .base) s t q (owned q i);
+      waited = waited;
+      all-waited = λ v p w o. passes-place (awaits (s .promises) (ownedBy t)) (s .tasks) v (within-table (s .tasks) v (λ (y : taskAt s v ≡ 0). omega arith))
+          (awaits-hit (s .promises) (ownedBy t) (taskAt s v) p w o);
+      all-ready = λ v i. let (p, w, o) = waited v i in end-hit (F .base) s t v (λ (y : v ≡ t). omega (arith, ap (taskAt s) y)) (p, w, o);
+    }
