@@ -47,6 +47,14 @@ unfolding given
 length-given w [] ps = refl
 length-given w (q ∷ l) ps = length-given w l (set ps q w) ∙ length-set ps q w
 
+-- every entry of a list that has no bad place is the actor's own
+pub entries-good : (B : ℕ) (s : Tables) (t : ℕ) (list : List ℕ) → length list ≤ firstBad (entryRefusal B (s .promises) t list) (length list) 0
+    → (q : ℕ) → In q list → (q < length (s .promises)) × (promiseAt s q ≡ ownedBy t)
+entries-good B s t list h q i =
+    let (j, b, e) = in-place i in
+    let (x, y, z) = entryRefusal-none B (s .promises) t list j (firstBad-before (entryRefusal B (s .promises) t list) (length list) 0 j (omega arith) (omega arith)) in
+    (subst (λ (k : ℕ). k < length (s .promises)) e x, subst (λ (k : ℕ). promiseAt s k ≡ ownedBy t) e y)
+
 module _ (F : Form) (s : Tables) (fits : firstOwned + length (s .tasks) ≤ F .base) (sd : Sound (F .base) s) where
   took-new : (t p : ℕ) → first (rows F s (step-new t p)) ≡ 0 → Took (F .base) s t (withMade s t p)
   took-new t p e =
@@ -69,14 +77,6 @@ module _ (F : Form) (s : Tables) (fits : firstOwned + length (s .tasks) ≤ F .b
 
   -- ---- async
 
-  -- every entry of a list that has no bad place is the actor's own
-  entries-good : (t : ℕ) (list : List ℕ) → length list ≤ firstBad (entryRefusal (F .base) (s .promises) t list) (length list) 0
-      → (q : ℕ) → In q list → (q < length (s .promises)) × (promiseAt s q ≡ ownedBy t)
-  entries-good t list h q i =
-      let (j, b, e) = in-place i in
-      let (x, y, z) = entryRefusal-none (F .base) (s .promises) t list j (firstBad-before (entryRefusal (F .base) (s .promises) t list) (length list) 0 j (omega arith) (omega arith)) in
-      (subst (λ (k : ℕ). k < length (s .promises)) e x, subst (λ (k : ℕ). promiseAt s k ≡ ownedBy t) e y)
-
   took-async : (t c : ℕ) (list : List ℕ) → first (rows F s (step-async t c list)) ≡ 0 → Took (F .base) s t (effect F s (step-async t c list) .after)
   unfolding started
   took-async t c list e = go (ltb bad (length list)) refl
@@ -89,7 +89,7 @@ module _ (F : Form) (s : Tables) (fits : firstOwned + length (s .tasks) ≤ F .b
       go false x =
           let (a, e₁) = actorRows-none (s .tasks) t (childRows (s .tasks) c) e in
           let (b, d) = childRows-none (s .tasks) c e₁ in
-          let good = entries-good t list (ltb-false bad (length list) x) in
+          let good = entries-good (F .base) s t list (ltb-false bad (length list) x) in
           moved (length-set (s .tasks) c readyWord) (length-given (ownedBy c) list (s .promises))
           (async-sound (length (s .tasks)) (length (s .promises)) (F .base) fits s sd t (a .below) (a .ready) c b b d list (λ q i. good q i .0) (λ q i. good q i .1))
 

@@ -12,3 +12,4 @@ pub mod InTurn
 pub mod Order
 pub mod Alarms
 pub mod Named
+pub mod Policy

@@ -14,7 +14,7 @@ use Rattle.words.specs.Words.{Form, setWord, firstOwned}
 use Rattle.words.proofs.BoolLaws.{true-is-not-false}
 use Rattle.rules.specs.Tables.{Tables, promiseAt}
 use Rattle.rules.specs.Refusals.{Row, first, earlier, tableRows, entryRows, entryRefusal, firstBad}
-use Rattle.rules.specs.Steps.{Step, step-new, step-set, step-get, step-async, step-end, Outcome, outcome, Found, astray, back, free, walk, followed, got, guarded, started, withStarted, rows, effect, raw, step}
+use Rattle.rules.specs.Steps.{Step, step-new, step-set, step-get, step-async, step-end, Outcome, outcome, Found, astray, back, free, walk, pairs, withWait, followed, got, guarded, started, withStarted, rows, effect, raw, step}
 use Rattle.rules.specs.Demands.{FirstGiven, now, later, NoneGiven, no-row, not-this, BadPlace, Refusal, plain, placed}
 use Rattle.rules.specs.declared.Answer.{Answer}
 use Rattle.rules.specs.declared.Answer.the-variants.{Made, Set, Value, Blamed, Waits, Cycle, Started, Ended, Refused, RefusedAt}
@@ -101,12 +101,12 @@ guarded-some r s o n = rw (ne-eqb r 0 n)
 -- ---- what an effect answers
 
 -- a get that is not refused answers value, blamed, cycle or waits
-pub got-answer : (Q : Answer → Type 0) → Q Value → ((b : ℕ) → Q (Blamed b)) → ((k : ℕ) → Q (Cycle k)) → ((k : ℕ) → Q (Waits k))
-    → (B : ℕ) (s : Tables) (t p w : ℕ) → Q (got B s t p w .answer)
+pub got-cases : (Q : Outcome → Type 0) (B : ℕ) (s : Tables) (t p w : ℕ) → Q (outcome Value s []) → ((b : ℕ) → Q (outcome (Blamed b) s []))
+    → ((k : ℕ) → Q (outcome (Cycle k) s (pairs k s t p))) → ((k : ℕ) → Q (outcome (Waits k) (withWait s t p) [])) → Q (got B s t p w)
 unfolding got followed
-got-answer Q v b c k B s t p w = go (eqb w setWord) (leb B w) (walk (length (s .tasks)) s t (w - firstOwned) 1)
+got-cases Q B s t p w v b c k = go (eqb w setWord) (leb B w) (walk (length (s .tasks)) s t (w - firstOwned) 1)
   where
-    go : (x y : Bool) (f : Found) → Q (cond x (outcome Value s []) (cond y (outcome (Blamed (w - B)) s []) (followed s t p f)) .answer)
+    go : (x y : Bool) (f : Found) → Q (cond x (outcome Value s []) (cond y (outcome (Blamed (w - B)) s []) (followed s t p f)))
     go true y f = v
     go false true f = b (w - B)
     go false false (back i) = c i
@@ -131,7 +131,7 @@ started-not-plain B s t c list i = go (ltb i (length list))
 effect-not-plain : (F : Form) (s : Tables) (x : Step) → not-plain (effect F s x .answer)
 effect-not-plain F s (step-new t p) r e = clash cc
 effect-not-plain F s (step-set t p) r e = clash cc
-effect-not-plain F s (step-get t p) r e = got-answer (λ (a : Answer). a ≡ Refused r → ⊥) (λ z. clash cc) (λ b z. clash cc) (λ k z. clash cc) (λ k z. clash cc) (F .base) s t p (promiseAt s p) e
+effect-not-plain F s (step-get t p) r e = got-cases (λ (o : Outcome). o .answer ≡ Refused r → ⊥) (F .base) s t p (promiseAt s p) (λ z. clash cc) (λ b z. clash cc) (λ k z. clash cc) (λ k z. clash cc) e
 effect-not-plain F s (step-async t c list) r e = started-not-plain (F .base) s t c list _ r e
 effect-not-plain F s (step-end t) r e = clash cc
 
@@ -254,8 +254,8 @@ started-unchanged B s t c list i = go (ltb i (length list))
 
 got-not-refusal : {A : Type 0} (B : ℕ) (s : Tables) (t p w : ℕ) → Refusal (got B s t p w .answer) → A
 got-not-refusal {A} B s t p w r =
-    got-answer (λ (a : Answer). Refusal a → A) (not-refusal Value (λ q e. clash cc) (λ q j e. clash cc)) (λ b. not-refusal (Blamed b) (λ q e. clash cc) (λ q j e. clash cc))
-    (λ k. not-refusal (Cycle k) (λ q e. clash cc) (λ q j e. clash cc)) (λ k. not-refusal (Waits k) (λ q e. clash cc) (λ q j e. clash cc)) B s t p w r
+    got-cases (λ (o : Outcome). Refusal (o .answer) → A) B s t p w (not-refusal Value (λ q e. clash cc) (λ q j e. clash cc)) (λ b. not-refusal (Blamed b) (λ q e. clash cc) (λ q j e. clash cc))
+    (λ k. not-refusal (Cycle k) (λ q e. clash cc) (λ q j e. clash cc)) (λ k. not-refusal (Waits k) (λ q e. clash cc) (λ q j e. clash cc)) r
 
 effect-unchanged : (F : Form) (s : Tables) (x : Step) → Refusal (effect F s x .answer) → Unchanged s (effect F s x)
 effect-unchanged F s (step-new t p) r = not-refusal Made (λ q e. clash cc) (λ q j e. clash cc) r

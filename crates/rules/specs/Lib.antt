@@ -6,4 +6,5 @@ pub mod Refusals
 pub mod Steps
 pub mod ProvedSet
 pub mod Demands
+pub mod Published
 pub mod Contracts

@@ -1,0 +1,119 @@
+-- The steps against the published ownership policy (specs/Published.antt): an accepted step does what the policy's rules say. Assumes nothing.
+use mathlib.Core.Path.{_≡_, refl, sym, ap, subst, _∙_}
+use mathlib.Core.Logic.{_⊎_, inl, inr, _≢_}
+use mathlib.Core.List.{List, [], _∷_}
+use mathlib.Core.Bool.{Bool, true, false, cond}
+use Prim.Native.Nat.{ℕ, zero, suc, _+_, _-_, _≤_, _<_}
+use native.Mathlib.Omega.{arith}
+use native.Mathlib.Decide.{ℕ-discrete}
+use lib.Dec.{ltb}
+use borrow.Author.Tests.{ltb-false}
+use lib.ListN.{length, getD, set, length-set}
+use lib.Seq.{getD-set-same, getD-set-other, lt-length-set}
+use Rattle.words.specs.Words.{Form, unmadeWord, setWord, ownedBy}
+use Rattle.words.specs.Lists.{In, top, pop}
+use Rattle.rules.specs.Tables.{Tables, promiseAt}
+use Rattle.rules.specs.Refusals.{entryRefusal, firstBad, newRows, getRows, ownRows, childRows}
+use Rattle.rules.specs.Steps.{Step, step-new, step-set, step-get, step-async, step-end, Outcome, outcome, given, withStarted, withEnded, Found, astray, back, free, walk, followed, got, started, effect, step}
+use Rattle.rules.specs.Published.{Declared, Fulfilled, Owner, NewRule, SetRule, SpawnRule, GetRule, EndRule}
+use Rattle.rules.specs.declared.Answer.{Answer}
+use Rattle.rules.specs.declared.Answer.the-variants.{Made, Set, Value, Blamed, Waits, Cycle, Started, Ended, Refused, RefusedAt}
+use Rattle.rules.proofs.Accepted.{entries-good}
+use Rattle.rules.proofs.Named.{accepted}
+use Rattle.rules.proofs.Order.{clash, got-cases}
+use Rattle.rules.proofs.RefusalLaws.{actorRows-none, newRows-none, getRows-none, ownRows-none}
+use Rattle.rules.proofs.StepMoves.{read-given, blame-miss}
+
+pub new-rule : (F : Form) (n : ℕ) (s : Tables) (t p : ℕ) → step F n s (step-new t p) .answer ≡ Made → NewRule s (step F n s (step-new t p) .after) t p
+new-rule F n s t p e =
+    let (z, o) = accepted F n s (step-new t p) Made (λ q (y : Refused q ≡ Made). clash cc) e in
+    let (act, z₁) = actorRows-none (s .tasks) t (newRows (s .promises) p) z in
+    let (h, w) = newRows-none (s .promises) p z₁ in
+    subst (λ (x : Outcome). NewRule s (x .after) t p) (sym o)
+    (record { fresh = λ d. d w; owner = getD-set-same (s .promises) p (ownedBy t) 0 h; others = λ q m. getD-set-other (s .promises) p q (ownedBy t) 0 m })
+
+pub set-rule : (F : Form) (n : ℕ) (s : Tables) (t p m : ℕ) → step F n s (step-set t p) .answer ≡ Set m → SetRule s (step F n s (step-set t p) .after) t p
+set-rule F n s t p m e =
+    let (z, o) = accepted F n s (step-set t p) (Set m) (λ q (y : Refused q ≡ Set m). clash cc) e in
+    let (act, z₁) = actorRows-none (s .tasks) t (ownRows (F .base) (s .promises) t p) z in
+    let (h, w, z₂) = ownRows-none (F .base) (s .promises) t p [] z₁ in
+    subst (λ (x : Outcome). SetRule s (x .after) t p) (sym o)
+    (record {
+      declared = λ (y : promiseAt s p ≡ unmadeWord). omega arith;
+      unfulfilled = λ (y : promiseAt s p ≡ setWord). omega arith;
+      owner = w;
+      fulfilled = getD-set-same (s .promises) p setWord 0 h;
+      others = λ q k. getD-set-other (s .promises) p q setWord 0 k;
+    })
+
+past : {q x : ℕ} {l : List ℕ} → q ≢ x → In q (x ∷ l) → In q l
+past n top = absurd (n refl)
+past n (pop i) = i
+
+-- what is listed reads the new word, also where it is listed again
+given-in : (w : ℕ) (l ps : List ℕ) → ((q : ℕ) → In q l → q < length ps) → (q : ℕ) → (getD ps q 0 ≡ w) ⊎ In q l → q < length ps → getD (given w l ps) q 0 ≡ w
+unfolding given
+given-in w [] ps h q (inl e) b = e
+given-in w [] ps h q (inr i) b = elim i [ ]
+given-in w (x ∷ l) ps h q i b = given-in w l (set ps x w) (λ y k. lt-length-set ps x w (h y (pop k))) q (go i (ℕ-discrete q x)) (lt-length-set ps x w b)
+  where
+    at-x : q ≡ x → getD (set ps x w) q 0 ≡ w
+    at-x e = ap (λ (y : ℕ). getD (set ps x w) y 0) e ∙ getD-set-same ps x w 0 (h x top)
+
+    go : (getD ps q 0 ≡ w) ⊎ In q (x ∷ l) → Dec (q ≡ x) → (getD (set ps x w) q 0 ≡ w) ⊎ In q l
+    go j (yes e) = inl (at-x e)
+    go (inl e) (no n) = inl (getD-set-other ps x q w 0 n ∙ e)
+    go (inr k) (no n) = inr (past n k)
+
+given-out : (w : ℕ) (l ps : List ℕ) → ((q : ℕ) → In q l → q < length ps) → (q : ℕ) → (In q l → ⊥) → getD (given w l ps) q 0 ≡ getD ps q 0
+given-out w l ps h q n = go (read-given w l ps h q)
+  where
+    go : (getD (given w l ps) q 0 ≡ getD ps q 0) ⊎ (In q l × (getD (given w l ps) q 0 ≡ w)) → getD (given w l ps) q 0 ≡ getD ps q 0
+    go (inl e) = e
+    go (inr i) = absurd (n (i .0))
+
+module _ (F : Form) (n : ℕ) (s : Tables) (t c : ℕ) (list : List ℕ) where
+  abbrev bad : ℕ
+  bad = firstBad (entryRefusal (F .base) (s .promises) t list) (length list) 0
+
+  -- async starts only where no place is bad
+  started-good : started (F .base) s t c list bad .answer ≡ Started
+      → (length list ≤ bad) × (started (F .base) s t c list bad .after ≡ withStarted s c list)
+  unfolding started
+  started-good e = go (ltb bad (length list)) refl e
+    where
+      go : (b : Bool) → ltb bad (length list) ≡ b
+          → cond b (outcome (RefusedAt (entryRefusal (F .base) (s .promises) t list bad) bad) s []) (outcome Started (withStarted s c list) []) .answer ≡ Started
+          → (length list ≤ bad) × (cond b (outcome (RefusedAt (entryRefusal (F .base) (s .promises) t list bad) bad) s []) (outcome Started (withStarted s c list) []) .after ≡ withStarted s c list)
+      go true h z = clash cc
+      go false h z = (ltb-false bad (length list) h, refl)
+
+  pub spawn-rule : step F n s (step-async t c list) .answer ≡ Started → SpawnRule s (step F n s (step-async t c list) .after) t c list
+  spawn-rule e =
+      let (z, o) = accepted F n s (step-async t c list) Started (λ q (y : Refused q ≡ Started). clash cc) e in
+      let (h, a) = started-good (sym (ap (λ (x : Outcome). x .answer) o) ∙ e) in
+      let good = entries-good (F .base) s t list h in
+      subst (λ (x : Tables). SpawnRule s x t c list) (sym (ap (λ (x : Outcome). x .after) o ∙ a))
+      (record {
+        owner = λ q i. good q i .1;
+        handed = λ q i. given-in (ownedBy c) list (s .promises) (λ x k. good x k .0) q (inr i) (good q i .0);
+        others = λ q m. given-out (ownedBy c) list (s .promises) (λ x k. good x k .0) q m;
+      })
+
+-- a get leaves the promise table, whatever it answers
+pub get-rule : (F : Form) (n : ℕ) (s : Tables) (t p : ℕ) (a : Answer) → ((q : ℕ) → Refused q ≡ a → ⊥) → step F n s (step-get t p) .answer ≡ a
+    → GetRule s (step F n s (step-get t p) .after) p
+get-rule F n s t p a h e =
+    let (z, o) = accepted F n s (step-get t p) a h e in
+    let (act, z₁) = actorRows-none (s .tasks) t (getRows (s .promises) p) z in
+    let (b, m) = getRows-none (s .promises) p z₁ in
+    subst (λ (x : Outcome). GetRule s (x .after) p) (sym o)
+    (record {
+      declared = m;
+      same = λ q. got-cases (λ (x : Outcome). promiseAt (x .after) q ≡ promiseAt s q) (F .base) s t p (promiseAt s p) refl (λ b. refl) (λ k. refl) (λ k. refl);
+    })
+
+pub end-rule : (F : Form) (n : ℕ) (s : Tables) (t m k : ℕ) → step F n s (step-end t) .answer ≡ Ended m k → EndRule s (step F n s (step-end t) .after) t
+end-rule F n s t m k e =
+    let (z, o) = accepted F n s (step-end t) (Ended m k) (λ q (y : Refused q ≡ Ended m k). clash cc) e in
+    subst (λ (x : Outcome). EndRule s (x .after) t) (sym o) (record { same = λ none q. blame-miss (F .base) s t q (none q) })
