@@ -93,7 +93,7 @@ module _ (F : Form) (apart : Apart F) (n : ℕ) (s : Tables) (g : Good F n s) wh
       let f = fits F apart n s (g .bounds) in (
         get-accepted t p u r o ∙ got-free F s f (g .sound) t p u r h o c far ∙ ap (λ (x : ℕ). followed s t p (free x)) (omega arith),
         subst (λ (x : ℕ). Chain (graph x (view (withWait s t p))) t (u ∷ k)) (sym (length-set (s .tasks) t (waitsOn p)))
-        (get-chain (length (s .tasks)) (length (s .promises)) (F .base) f s (g .sound) t b r p u h o q b k c far),
+            (get-chain (length (s .tasks)) (length (s .promises)) (F .base) f s (g .sound) t b r p u h o q b k c far),
       )
 
   -- ---- and back: what an alarm means

@@ -13,3 +13,4 @@ pub mod Order
 pub mod Alarms
 pub mod Named
 pub mod Policy
+pub mod Promises

@@ -15,11 +15,20 @@ use Rattle.words.proofs.BoolLaws.{true-is-not-false}
 use Rattle.rules.specs.Tables.{Tables, promiseAt}
 use Rattle.rules.specs.Refusals.{Row, first, earlier, tableRows, entryRows, entryRefusal, firstBad}
 use Rattle.rules.specs.Steps.{Step, step-new, step-set, step-get, step-async, step-end, Outcome, outcome, Found, astray, back, free, walk, pairs, withWait, followed, got, guarded, started, withStarted, rows, effect, raw, step}
-use Rattle.rules.specs.Demands.{FirstGiven, now, later, NoneGiven, no-row, not-this, BadPlace, Refusal, plain, placed}
+use Rattle.rules.specs.Demands.{numbers, paperRows, FirstGiven, now, later, NoneGiven, no-row, not-this, BadPlace, Refusal, plain, placed}
 use Rattle.rules.specs.declared.Answer.{Answer}
 use Rattle.rules.specs.declared.Answer.the-variants.{Made, Set, Value, Blamed, Waits, Cycle, Started, Ended, Refused, RefusedAt}
 use Rattle.rules.proofs.RefusalLaws.{Numbered, row, first-append, actorRows-numbered, firstBad-before}
 use Rattle.rules.proofs.RefusalLaws as laws
+
+-- ---- the rows of each step stand in the paper's order
+
+pub papers-order : (F : Form) (n : ℕ) (s : Tables) (x : Step) → numbers (tableRows F n s ++ rows F s x) ≡ paperRows x
+papers-order F n s (step-new t p) = refl
+papers-order F n s (step-set t p) = refl
+papers-order F n s (step-get t p) = refl
+papers-order F n s (step-async t c list) = refl
+papers-order F n s (step-end t) = refl
 
 -- ---- the first row
 

@@ -15,7 +15,7 @@ use Rattle.words.specs.Lists.{allBelow, count, In}
 use Rattle.words.proofs.BoolLaws.{and-yes, and-no, and-split, or-split, or-left, or-right}
 use Rattle.words.proofs.ListLaws.{allBelow-at, allBelow-make, count-le, pigeon}
 use Rattle.rules.specs.Tables.{Tables, taskAt, promiseAt, live, waiting, liveTasks, awaitedBy}
-use Rattle.rules.specs.Chains.{Chain, here, link, Comes, WaitsFor, view, graph} 
+use Rattle.rules.specs.Chains.{Chain, here, link, Comes, WaitsFor, view, graph}
 use Rattle.rules.specs.Chains as chains
 use Rattle.rules.specs.Sound.{Live, TaskWord, unused, ready, ended, waits, PromiseWord, unmade, done, owned, blamed, SoundView, Sound, comes, taskPasses, promisePasses, promiseWordPasses, soundTest}
 use Rattle.rules.proofs.GraphLaws.{on-chain, no-dup}

@@ -1,6 +1,7 @@
 -- What is demanded of the rules, as statements. The theorems stand in proofs/Promises.antt.
 --
 --   Apart F, Good F n s                 a form whose owned and blamed words do not meet; tables within their bounds, and sound
+--   numbers rows, paperRows x           the numbers of the rows; those of the paper's table
 --   FirstGiven r rows                   r is the number of the first row that applies
 --   BadPlace B s t list i               i is the first bad place of an async list
 --   Refusal a                           the answer a is a refusal
@@ -20,7 +21,7 @@ use Rattle.rules.specs.Tables.{Tables, taskAt, promiseAt, liveTasks}
 use Rattle.rules.specs.Chains.{Chain, chainEnd, waits}
 use Rattle.rules.specs.Sound.{Live, Sound}
 use Rattle.rules.specs.Refusals.{Row, entryRows, entryRefusal}
-use Rattle.rules.specs.Steps.{Step, step-end, actor, Outcome, outcome, step, run}
+use Rattle.rules.specs.Steps.{Step, step-new, step-set, step-get, step-async, step-end, actor, Outcome, outcome, step, run}
 use Rattle.rules.specs.declared.Answer.{Answer}
 use Rattle.rules.specs.declared.Answer.the-variants.{Ended, Refused, RefusedAt}
 
@@ -32,6 +33,23 @@ pub record Good (F : Form) (n : ℕ) (s : Tables) : Type 0 where
   pub sound : Sound (F .base) s
 
 -- ---- demand 1: "Bad input is refused by number in a fixed order; a refusal changes no table and no report"
+
+-- the numbers of the rows
+abbrev pub numbers : List Row → List ℕ
+numbers [] = []
+numbers ((r, applies) ∷ rows) = r ∷ numbers rows
+
+-- the paper's table, from the top, and its last column: which refusals a step has, and in which order
+abbrev pub paperRows : Step → List ℕ
+paperRows (step-new t p) = 1 ∷ 2 ∷ 3 ∷ 4 ∷ 5 ∷ 6 ∷ 7 ∷ []
+paperRows (step-set t p) = 1 ∷ 2 ∷ 3 ∷ 4 ∷ 5 ∷ 6 ∷ 8 ∷ 9 ∷ 10 ∷ []
+paperRows (step-get t p) = 1 ∷ 2 ∷ 3 ∷ 4 ∷ 5 ∷ 6 ∷ 8 ∷ []
+paperRows (step-async t c list) = 1 ∷ 2 ∷ 3 ∷ 4 ∷ 5 ∷ 11 ∷ 12 ∷ []
+paperRows (step-end t) = 1 ∷ 2 ∷ 3 ∷ 4 ∷ 5 ∷ []
+
+-- "each entry is tried for 6, 8, 9, 10, 13 in turn"
+abbrev pub paperEntryRows : List ℕ
+paperEntryRows = 6 ∷ 8 ∷ 9 ∷ 10 ∷ 13 ∷ []
 
 pub data FirstGiven (r : ℕ) : List Row → Type 0 where
   now : {rows : List Row} → FirstGiven r ((r, true) ∷ rows)

@@ -1,0 +1,135 @@
+-- The page of promises: what the rules promise, each in one statement whose proof is a name. The definitions that it speaks of stand in specs/; no other proof
+-- file has to be read. F is any form whose owned and blamed words do not meet (`small` is one), n the report's length, s any tables. Assumes nothing.
+use mathlib.Core.Path.{_≡_, refl, sym, _∙_}
+use mathlib.Core.Logic.{_≢_}
+use mathlib.Core.List.{List, [], _∷_, _++_, map}
+use mathlib.Core.Bool.{true}
+use Prim.Native.Nat.{ℕ, _+_, _*_, _≤_, _<_}
+use lib.Dec.{lit≤}
+use lib.ListN.{length}
+use Rattle.words.specs.Words.{Form, small, readyWord, firstOwned, ownedBy}
+use Rattle.words.specs.Lists.{In}
+use Rattle.rules.specs.Tables.{Tables, taskAt, promiseAt, liveTasks, fresh}
+use Rattle.rules.specs.Chains.{Chain, waits}
+use Rattle.rules.specs.Sound.{Sound, soundTest}
+use Rattle.rules.specs.Refusals.{tableRows, entryRows}
+use Rattle.rules.specs.Steps.{Step, step-set, step-get, step-async, step-end, Outcome, outcome, withWait, pairs, rows, step, run}
+use Rattle.rules.specs.ProvedSet.{provedSet, taken, expected}
+use Rattle.rules.specs.Demands.{Apart, Good, numbers, paperRows, paperEntryRows, FirstGiven, NoneGiven, BadPlace, Refusal, OwnersFrom, Alarm, Named, Woken, Demand3}
+use Rattle.rules.specs.Contracts.{Gives}
+use Rattle.rules.specs.declared.Answer.{Answer}
+use Rattle.rules.specs.declared.Answer.the-variants.{Set, Waits, Cycle, Ended, Refused, RefusedAt}
+use Rattle.rules.proofs.Alarms as alarms
+use Rattle.rules.proofs.Cases as cases
+use Rattle.rules.proofs.InTurn as in-turn
+use Rattle.rules.proofs.Kept as kept
+use Rattle.rules.proofs.Named as named
+use Rattle.rules.proofs.Order as order
+use Rattle.rules.proofs.SoundTest as test
+use Rattle.rules.proofs.Waiting as waiting
+
+-- ---- the proved set
+
+pub the-proved-set : map taken provedSet ≡ map expected provedSet
+the-proved-set = cases.proved-set
+
+pub small-apart : Apart small
+small-apart = lit≤ tt
+
+-- ---- the soundness test is what the paper says of sound tables, however far it follows a chain
+
+pub test-means-sound : (B : ℕ) (s : Tables) → firstOwned + length (s .tasks) ≤ B → soundTest B s ≡ true → Sound B s
+test-means-sound B s fits e = test.soundTest-sound B s fits e
+
+pub sound-passes-test : (B : ℕ) (s : Tables) → Sound B s → soundTest B s ≡ true
+sound-passes-test B s sd = test.sound-soundTest B s sd
+
+-- ---- DEMAND 1
+
+module _ (F : Form) (n : ℕ) (s : Tables) where
+  -- "Bad input is refused by number in a fixed order": the rows stand in the paper's order
+  pub in-the-papers-order : (x : Step) → numbers (tableRows F n s ++ rows F s x) ≡ paperRows x
+  in-the-papers-order = order.papers-order F n s
+
+  pub entries-in-the-papers-order : (t : ℕ) (list : List ℕ) (i : ℕ) → numbers (entryRows (F .base) (s .promises) t list i) ≡ paperEntryRows
+  entries-in-the-papers-order t list i = refl
+
+  -- refused by r exactly when r is the first of the rows that applies
+  pub refused-by-the-first : (x : Step) (r : ℕ) → step F n s x .answer ≡ Refused r → FirstGiven r (tableRows F n s ++ rows F s x)
+  refused-by-the-first = order.refused-first F n s
+
+  pub the-first-refuses : (x : Step) (r : ℕ) → FirstGiven r (tableRows F n s ++ rows F s x) → step F n s x ≡ outcome (Refused r) s []
+  the-first-refuses = order.first-refused F n s
+
+  -- and a list entry exactly when it is the first bad one, by the first of its rows that applies, with its place
+  pub entry-refused-by-the-first : (t c : ℕ) (list : List ℕ) (r i : ℕ) → step F n s (step-async t c list) .answer ≡ RefusedAt r i
+      → NoneGiven (tableRows F n s ++ rows F s (step-async t c list)) × BadPlace (F .base) (s .promises) t list r i
+  entry-refused-by-the-first = order.placed-first F n s
+
+  pub the-first-entry-refuses : (t c : ℕ) (list : List ℕ) (r i : ℕ) → NoneGiven (tableRows F n s ++ rows F s (step-async t c list)) → BadPlace (F .base) (s .promises) t list r i
+      → step F n s (step-async t c list) ≡ outcome (RefusedAt r i) s []
+  the-first-entry-refuses = order.first-placed F n s
+
+  -- "a refusal changes no table and no report"
+  pub a-refusal-changes-nothing : (x : Step) → Refusal (step F n s x .answer) → (step F n s x .after ≡ s) × (step F n s x .words ≡ [])
+  a-refusal-changes-nothing = order.refusal-unchanged F n s
+
+-- any two outcomes that the contract of a step allows coincide
+pub one-outcome : {o : Outcome} {rs : List ℕ} {a a′ : Answer} {ts ts′ ps ps′ after after′ : List ℕ} → Gives o rs a ts ps after → Gives o rs a′ ts′ ps′ after′
+    → (a ≡ a′) × (ts ≡ ts′) × (ps ≡ ps′) × (after ≡ after′)
+one-outcome g h = (g .answer ∙ sym (h .answer), g .tasks ∙ sym (h .tasks), g .promises ∙ sym (h .promises), g .report ∙ sym (h .report))
+
+-- ---- DEMAND 2
+
+module _ (F : Form) (apart : Apart F) (n : ℕ) (s : Tables) (good : Good F n s) where
+  -- "A get alarms exactly when the chain of owners and waits leads back to the asker", and then reports that ring and changes no table
+  pub alarms-if-back : (t p : ℕ) (l : List ℕ) → taskAt s t ≡ readyWord → OwnersFrom s p l → In t l → step F n s (step-get t p) ≡ outcome (Cycle (length l)) s (pairs (length l) s t p)
+  alarms-if-back = alarms.get-alarms F apart n s good
+
+  pub only-if-back : (t p k : ℕ) → step F n s (step-get t p) .answer ≡ Cycle k → Alarm s t p k (step F n s (step-get t p) .words)
+  only-if-back = alarms.alarm-means F apart n s good
+
+  pub an-alarm-changes-no-table : (t p k : ℕ) → step F n s (step-get t p) .answer ≡ Cycle k → step F n s (step-get t p) .after ≡ s
+  an-alarm-changes-no-table = alarms.alarm-unchanged F apart n s good
+
+  -- otherwise it waits, and the owners reached are its chain
+  pub waits-if-not-back : (t p : ℕ) (l : List ℕ) → taskAt s t ≡ readyWord → OwnersFrom s p l → (In t l → ⊥)
+      → (step F n s (step-get t p) ≡ outcome (Waits (length l)) (withWait s t p) []) × Chain (waits (withWait s t p)) t l
+  waits-if-not-back = alarms.get-waits F apart n s good
+
+  -- the owners from a promise: one list for each owned promise, with at most as many as there are live tasks
+  pub owners-exist : (p u : ℕ) → u < length (s .tasks) → promiseAt s p ≡ ownedBy u → (l : List ℕ) × OwnersFrom s p l
+  owners-exist = alarms.owners-some F s (kept.fits F apart n s (good .bounds)) (good .sound)
+
+  pub owners-unique : (p : ℕ) (l l′ : List ℕ) → OwnersFrom s p l → OwnersFrom s p l′ → l ≡ l′
+  owners-unique = alarms.owners-one s
+
+  pub owners-at-most-live : (p : ℕ) (l : List ℕ) → OwnersFrom s p l → length l ≤ liveTasks s
+  owners-at-most-live = alarms.owners-bound s
+
+  -- "A task that ends still owning promises is named for exactly those."
+  pub named-for-exactly-those : (t m k : ℕ) → step F n s (step-end t) .answer ≡ Ended m k → Named (F .base) s t m k (step F n s (step-end t))
+  named-for-exactly-those = named.end-names F n s (good .sound)
+
+  -- a set makes ready exactly those who waited on it
+  pub wakes-exactly-those : (t p m : ℕ) → step F n s (step-set t p) .answer ≡ Set m → Woken s p m (step F n s (step-set t p))
+  wakes-exactly-those = named.set-wakes F n s
+
+-- each step, accepted, refused or alarmed, leaves sound tables sound, from any sound tables
+pub sound-stays-sound : (F : Form) → Apart F → (n : ℕ) (s : Tables) → Sound (F .base) s → (x : Step) → Sound (F .base) (step F n s x .after)
+sound-stays-sound = kept.sound-kept
+
+-- ---- DEMAND 3
+
+-- of any good tables
+pub demand-3-of : (F : Form) → Apart F → (n : ℕ) (s : Tables) → Good F n s → Demand3 F n s
+demand-3-of F apart n s g = record {
+  some-ready = waiting.some-ready (F .base) s (g .sound);
+  one-chain = waiting.one-chain (F .base) s (g .sound);
+  kept = waiting.chain-kept F apart n s (g .sound);
+  in-turn = in-turn.ends-in-turn F apart n s g;
+}
+
+-- "From fresh tables, after any steps": all four sentences of specs/Demands.antt, `Demand3`
+pub demand-3 : (F : Form) → Apart F → (n T P : ℕ) → 1 ≤ T → T ≤ F .mostTasks → P ≤ F .mostPromises → P + 2 * T ≤ n → (xs : List Step) → Demand3 F n (run F n (fresh T P) xs)
+demand-3 F apart n T P some most most′ room xs = demand-3-of F apart n (run F n (fresh T P) xs) (kept.good-run F apart n (fresh T P) xs (kept.fresh-good T P some F apart n most most′ room))
