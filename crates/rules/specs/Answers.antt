@@ -1,14 +1,15 @@
 -- The paper's number and values for each answer. Paper: 01, "The five steps", "Refusals by number", "Lines".
 --
---   numberOf a    a refusal's number; for an accepted step a number of ours, from 101 on (100 is kept for the answer to a line that opens a session)
+--   numberOf a    a refusal's number; for any other answer a number of ours, from 100 on
 --   valuesOf a    the counts and numbers that the answer carries, in the order of the answer line
 -- Assumes nothing.
 use Prim.Native.Nat.{ℕ}
 use mathlib.Core.List.{List, [], _∷_}
 use Rattle.rules.specs.declared.Answer.{Answer}
-use Rattle.rules.specs.declared.Answer.the-variants.{Made, Set, Value, Blamed, Waits, Cycle, Started, Ended, Refused, RefusedAt}
+use Rattle.rules.specs.declared.Answer.the-variants.{Opened, Made, Set, Value, Blamed, Waits, Cycle, Started, Ended, Refused, RefusedAt}
 
 unfoldable pub numberOf : Answer → ℕ
+numberOf Opened = 100
 numberOf Made = 101
 numberOf (Set n) = 102
 numberOf Value = 103
@@ -21,6 +22,7 @@ numberOf (Refused r) = r
 numberOf (RefusedAt r i) = r
 
 unfoldable pub valuesOf : Answer → List ℕ
+valuesOf Opened = []
 valuesOf Made = []
 valuesOf (Set n) = n ∷ []
 valuesOf Value = []

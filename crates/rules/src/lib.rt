@@ -1,7 +1,9 @@
-// The answers of the steps. What each step answers, and when, stands in specs/; what is promised of it, in proofs/Promises.antt.
+// The answers. What each step answers, and when, stands in specs/; what is promised of it, in proofs/Promises.antt.
 
-// An answer; the counts and numbers that belong to it are in its cases, the lists are in the report.
+// An answer; the counts and numbers that belong to it are in its cases, the lists are in the report. `Opened` is the answer to a line that opens a session, all
+// others are given by the steps.
 pub enum Answer {
+    Opened,
     Made,
     Set(u16),
     Value,
