@@ -1,7 +1,7 @@
 -- The proved set: the rules give each row of specs/ProvedSet.antt, by computation. Assumes nothing.
 use mathlib.Core.Path.{_≡_, refl}
 use mathlib.Core.List.{map}
-use Rattle.words.specs.Words.{inBounds}
+use Rattle.words.specs.Words.{sizesInBounds, inBounds}
 use Rattle.words.specs.Lists.{allBelow, is, places, changed}
 use Rattle.rules.specs.Sound.{hop, comes, taskPasses, promisePasses, soundTest}
 use Rattle.rules.specs.Refusals.{first, differs, entryRefusal, firstBad}
@@ -9,5 +9,5 @@ use Rattle.rules.specs.Steps.{given, awaits, walk, pairs, followed, got,
 use Rattle.rules.specs.ProvedSet.{provedSet, taken, expected}
 
 pub proved-set : map taken provedSet ≡ map expected provedSet
-unfolding inBounds allBelow is places changed hop comes taskPasses promisePasses soundTest first differs entryRefusal firstBad given awaits walk pairs followed got guarded started
+unfolding sizesInBounds inBounds allBelow is places changed hop comes taskPasses promisePasses soundTest first differs entryRefusal firstBad given awaits walk pairs followed got guarded started
 proved-set = refl

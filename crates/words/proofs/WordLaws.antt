@@ -1,13 +1,30 @@
--- Laws of specs/Words.antt: the bounds as a test and as four facts. Assumes nothing.
+-- Laws of specs/Words.antt: the bounds as a test and as facts. Assumes nothing.
 use Prim.Native.Nat.{ℕ, _+_, _*_, _≤_}
 use mathlib.Core.Path.{_≡_}
 use mathlib.Core.Bool.{Bool, true, _&&_}
 use lib.Dec.{leb}
 use borrow.Author.Tests.{leb-true, le-leb}
-use Rattle.words.specs.Words.{Form, inBounds}
+use Rattle.words.specs.Words.{Form, sizesInBounds, inBounds}
 use Rattle.words.proofs.BoolLaws.{and-split, and-yes}
 
--- T, P and the report's length n are within their bounds
+-- T and P are within their bounds
+pub record Sizes (F : Form) (T P : ℕ) : Type 0 where
+  pub some : 1 ≤ T
+  pub tasks : T ≤ F .mostTasks
+  pub promises : P ≤ F .mostPromises
+
+pub sizesInBounds-true : (F : Form) (T P : ℕ) → sizesInBounds F T P ≡ true → Sizes F T P
+unfolding sizesInBounds
+sizesInBounds-true F T P e =
+    let (ab, c) = and-split (leb 1 T && leb T (F .mostTasks)) (leb P (F .mostPromises)) e in
+    let (a, b) = and-split (leb 1 T) (leb T (F .mostTasks)) ab in
+    record { some = leb-true 1 T a; tasks = leb-true T (F .mostTasks) b; promises = leb-true P (F .mostPromises) c }
+
+pub sizesInBounds-of : (F : Form) (T P : ℕ) → Sizes F T P → sizesInBounds F T P ≡ true
+unfolding sizesInBounds
+sizesInBounds-of F T P b = and-yes _ _ (and-yes _ _ (le-leb 1 T (b .some)) (le-leb T (F .mostTasks) (b .tasks))) (le-leb P (F .mostPromises) (b .promises))
+
+-- and so is the report's length n
 pub record Bounds (F : Form) (T P n : ℕ) : Type 0 where
   pub some : 1 ≤ T
   pub tasks : T ≤ F .mostTasks
@@ -17,12 +34,11 @@ pub record Bounds (F : Form) (T P n : ℕ) : Type 0 where
 pub inBounds-true : (F : Form) (T P n : ℕ) → inBounds F T P n ≡ true → Bounds F T P n
 unfolding inBounds
 inBounds-true F T P n e =
-    let (abc, d) = and-split (leb 1 T && leb T (F .mostTasks) && leb P (F .mostPromises)) (leb (P + 2 * T) n) e in
-    let (ab, c) = and-split (leb 1 T && leb T (F .mostTasks)) (leb P (F .mostPromises)) abc in
-    let (a, b) = and-split (leb 1 T) (leb T (F .mostTasks)) ab in
-    record { some = leb-true 1 T a; tasks = leb-true T (F .mostTasks) b; promises = leb-true P (F .mostPromises) c; room = leb-true (P + 2 * T) n d }
+    let (a, b) = and-split (sizesInBounds F T P) (leb (P + 2 * T) n) e in
+    let s = sizesInBounds-true F T P a in
+    record { some = s .some; tasks = s .tasks; promises = s .promises; room = leb-true (P + 2 * T) n b }
 
 pub inBounds-of : (F : Form) (T P n : ℕ) → Bounds F T P n → inBounds F T P n ≡ true
 unfolding inBounds
 inBounds-of F T P n b =
-    and-yes _ _ (and-yes _ _ (and-yes _ _ (le-leb 1 T (b .some)) (le-leb T (F .mostTasks) (b .tasks))) (le-leb P (F .mostPromises) (b .promises))) (le-leb (P + 2 * T) n (b .room))
+    and-yes _ _ (sizesInBounds-of F T P (record { some = b .some; tasks = b .tasks; promises = b .promises })) (le-leb (P + 2 * T) n (b .room))

@@ -4,7 +4,7 @@
 --   unmadeWord, setWord, ownedBy t, blamedOn B t   the words of the promise table; B is where the blamed words begin
 --   firstWait, firstOwned                          the word that waits on promise 0, the word owned by task 0
 --   Form, small                                    where the blamed words begin, and the limits
---   inBounds F T P n                               T, P and the report's length n are within their bounds
+--   sizesInBounds F T P, inBounds F T P n          T and P are within their bounds; and so is the report's length n
 -- Assumes nothing.
 use Prim.Native.Nat.{ℕ, _+_, _*_}
 use mathlib.Core.Bool.{Bool, _&&_}
@@ -64,6 +64,10 @@ pub record Form : Type 0 where
 abbrev pub small : Form
 small = record { base = 80; mostTasks = 64; mostPromises = 256 }
 
--- "a task table of T words, a promise table of P words and a report of at least P + 2T words"
+-- "a task table of T words (1 to 64), a promise table of P words (0 to 256)"
+unfoldable pub sizesInBounds : Form → ℕ → ℕ → Bool
+sizesInBounds F T P = leb 1 T && leb T (F .mostTasks) && leb P (F .mostPromises)
+
+-- "and a report of at least P + 2T words"
 unfoldable pub inBounds : Form → ℕ → ℕ → ℕ → Bool
-inBounds F T P n = leb 1 T && leb T (F .mostTasks) && leb P (F .mostPromises) && leb (P + 2 * T) n
+inBounds F T P n = sizesInBounds F T P && leb (P + 2 * T) n

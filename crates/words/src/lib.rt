@@ -1,7 +1,7 @@
 // The words of the two tables and the limits of a session, as constants of the kind of word that they belong to, and constructors of words.
 ghost use mathlib.Core.Path.{_≡_};
 ghost use Prim.Native.Nat.{_+_, _<_};
-ghost use Rattle.words.specs.Words.{unusedWord, readyWord, endedWord, waitsOn, unmadeWord, setWord, ownedBy, blamedOn, small, Form, inBounds};
+ghost use Rattle.words.specs.Words.{unusedWord, readyWord, endedWord, waitsOn, unmadeWord, setWord, ownedBy, blamedOn, small, sizesInBounds, inBounds};
 
 // A word of the task table.
 pub struct TaskWord {
@@ -96,9 +96,9 @@ impl Limit {
     pub const PROMISES: usize = 256;
 }
 
-// Whether the number of tasks, the number of promises and the report's length are within their bounds: refusal 1 is given where they are not.
-pub fn in_bounds(tasks: usize, promises: usize, report: usize) -> bool
-    ensures { λ r. ⌜ r ≡ inBounds small tasks promises report ⌝ }
+// Whether the number of tasks and the number of promises are within their bounds.
+pub fn sizes_in_bounds(tasks: usize, promises: usize) -> bool
+    ensures { λ r. ⌜ r ≡ sizesInBounds small tasks promises ⌝ }
 {
     if tasks < 1 {
         return false;
@@ -106,8 +106,15 @@ pub fn in_bounds(tasks: usize, promises: usize, report: usize) -> bool
     if Limit::TASKS < tasks {
         return false;
     }
-    if Limit::PROMISES < promises {
-        return false;
+    promises <= Limit::PROMISES
+}
+
+// Whether these and the report's length are within their bounds: refusal 1 is given where they are not.
+pub fn in_bounds(tasks: usize, promises: usize, report: usize) -> bool
+    ensures { λ r. ⌜ r ≡ inBounds small tasks promises report ⌝ }
+{
+    if sizes_in_bounds(tasks, promises) {
+        return promises + 2 * tasks <= report;
     }
-    promises + 2 * tasks <= report
+    false
 }

@@ -1,4 +1,6 @@
-use Rattle.words.specs.Words.{inBounds}
+use mathlib.Core.Path.{sym, _∙_}
+use Rattle.words.specs.Words.{small, inBounds}
+use Rattle.words.proofs.WordLaws.{sizesInBounds-true}
 use native.Mathlib.Omega.{arith}
 use Rattle.words.proofs.Tests.{tests}
 use borrow.Author.Needs.{needs}
@@ -6,34 +8,30 @@ use Rattle.words.proofs.in_bounds.Statement.{statement}
 use Rattle.words.proofs.in_bounds.Tie as tie
 use Rattle.words.proofs.in_bounds.Reads as reads
 use Rattle.words.proofs.in_bounds.Lts as lts
+use Rattle.words.proofs.sizes_in_bounds.Reads as sizes-in-bounds-reads
 
--- src/lib.rt:104:9
+-- src/lib.rt:116:8
+sizes-in-bounds-requires : tie.Need-sizes-in-bounds-requires
+sizes-in-bounds-requires c κs = search needs
+
+-- src/lib.rt:117:27
+mul-result : tie.Need-mul-result
+mul-result c = let w = sizesInBounds-true small _ _ (sym (c .before .sizes-in-bounds .ensures) ∙ c .if1 .taken) in omega (arith, w .tasks)
+
+-- src/lib.rt:117:16
+add-result : tie.Need-add-result
+add-result c = let w = sizesInBounds-true small _ _ (sym (c .before .sizes-in-bounds .ensures) ∙ c .if1 .taken) in omega (arith, w .tasks, w .promises)
+
+-- src/lib.rt:117:9
 returns : tie.Need-returns
 unfolding inBounds
-returns c = search (needs, tests)
+returns c = rw (← c .before .sizes-in-bounds .ensures, c .if1 .taken)
 
--- src/lib.rt:107:9
+-- src/lib.rt:113:1
 returns-2 : tie.Need-returns-2
 unfolding inBounds
-returns-2 c = search (needs, tests)
-
--- src/lib.rt:110:9
-returns-3 : tie.Need-returns-3
-unfolding inBounds
-returns-3 c = search (needs, tests)
-
--- src/lib.rt:112:16
-mul-result : tie.Need-mul-result
-mul-result c = search needs
-
--- src/lib.rt:112:5
-add-result : tie.Need-add-result
-add-result c = search needs
-
--- src/lib.rt:100:1
-returns-4 : tie.Need-returns-4
-unfolding inBounds
-returns-4 c = search (needs, tests)
+returns-2 c = rw (← c .before .sizes-in-bounds .ensures, c .if1 .left)
 
 pub in-bounds-spec : {M : Type 1} → statement M
-in-bounds-spec = tie.close (tie.spec returns returns-2 returns-3 mul-result add-result returns-4)
+in-bounds-spec =
+    tie.close (tie.spec sizes-in-bounds-requires mul-result add-result returns returns-2)
