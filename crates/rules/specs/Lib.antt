@@ -8,3 +8,4 @@ pub mod ProvedSet
 pub mod Demands
 pub mod Published
 pub mod Contracts
+pub mod Sessions

@@ -1,7 +1,7 @@
 // Reads and stores that ask nothing of their caller, and the loops that go through a table of words.
 ghost use mathlib.Core.Path.{_≡_};
 ghost use Prim.Native.Nat.{_+_, _≤_, _<_};
-ghost use lib.ListN.{length, getD, set};
+ghost use lib.ListN.{length, getD, set, replicate};
 ghost use lib.Seq.{sets};
 ghost use Rattle.words.specs.Lists.{is, places, changed, replaced};
 ghost use Rattle.rules.specs.Refusals.{earlier as earlierOf};
@@ -71,4 +71,15 @@ pub fn collect_word(table: &[u16], v: u16, out: &mut [u16], from: usize) -> usiz
         i += 1;
     }
     n
+}
+
+// Each word of the table becomes 0.
+pub fn clear(table: &mut [u16])
+    ensures { λ _. ⌜ now (table .exit) ≡ replicate (length (now (table .entry))) 0 ⌝ }
+{
+    let mut i = 0;
+    while i < table.len() {
+        table[i] = 0;
+        i += 1;
+    }
 }

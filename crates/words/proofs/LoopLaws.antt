@@ -1,12 +1,12 @@
 -- What a loop through a table holds after i turns, over any test and any change of a word: a law for the start, a turn and the end. Assumes nothing.
 use Prim.Native.Nat.{ℕ, _+_, _-_, _≤_, _<_}
 use mathlib.Core.Path.{_≡_, refl, sym, ap, _∙_}
-use mathlib.Core.List.{List, [], map}
+use mathlib.Core.List.{List, [], _∷_, map}
 use mathlib.Core.Bool.{Bool, true, false}
 use native.Mathlib.Omega.{arith}
 use native.Mathlib.Numerals.{add-one}
 use native.Mathlib.Nat.{add-zero}
-use lib.ListN.{length, getD, set, drop, length-set}
+use lib.ListN.{length, getD, set, drop, replicate, length-set}
 use lib.Seq.{sets}
 use Rattle.words.specs.Lists.{places}
 use Rattle.words.proofs.ListLaws.{mapped, mapped-none, mapped-more, mapped-get, mapped-all, mapped-length, places-step, places-end}
@@ -33,6 +33,14 @@ module _ (g : ℕ → ℕ) where
   rewritten-end {before} {now} {i} r h =
       let e : i ≡ length before = omega (arith, r .within) in
       r .table ∙ ap (λ (k : ℕ). mapped g k before) e ∙ mapped-all g before
+
+-- every word made 0
+abbrev pub zeroed : ℕ → ℕ
+zeroed w = 0
+
+pub map-zeroed : (ws : List ℕ) → map zeroed ws ≡ replicate {A = ℕ} (length ws) 0
+map-zeroed [] = refl
+map-zeroed (w ∷ ws) = ap (λ (r : List ℕ). 0 ∷ r) (map-zeroed ws)
 
 -- ---- a loop that writes the places of the words that pass f, from `from` on
 
