@@ -1,5 +1,7 @@
 pub mod Cases
 pub mod RefusalLaws
+pub mod PlaceLaws
+pub mod GivesLaws
 pub mod GraphLaws
 pub mod Moves
 pub mod WalkLaws

@@ -18,6 +18,7 @@ use Rattle.rules.specs.Steps.{Step, step-new, step-set, step-get, step-a
 use Rattle.rules.specs.Demands.{numbers, paperRows, FirstGiven, now, later, NoneGiven, no-row, not-this, BadPlace, Refusal, plain, placed}
 use Rattle.rules.specs.declared.Answer.{Answer}
 use Rattle.rules.specs.declared.Answer.the-variants.{Made, Set, Value, Blamed, Waits, Cycle, Started, Ended, Refused, RefusedAt}
+use Rattle.rules.proofs.PlaceLaws.{firstBad-place}
 use Rattle.rules.proofs.RefusalLaws.{Numbered, row, first-append, actorRows-numbered, firstBad-before}
 use Rattle.rules.proofs.RefusalLaws as laws
 
@@ -231,6 +232,12 @@ module _ (F : Form) (n : ℕ) (s : Tables) (t c : ℕ) (list : List ℕ) where
               (subst (λ (k : ℕ). refusalOf k ≡ r) b a);
         },
       )
+
+  pub placed-within : (r i : ℕ) → step F n s (step-async t c list) .answer ≡ RefusedAt r i → i ≤ length (s .promises)
+  placed-within r i e =
+      let (z, e₁) = guarded-placed _ (effect F s (step-async t c list)) r i (sym (ap (λ (o : Outcome). o .answer) (step-guarded F n s (step-async t c list))) ∙ e) in
+      let (h, a, b) = started-placed r i e₁ in
+      subst (λ (k : ℕ). k ≤ length (s .promises)) b (firstBad-place (F .base) (s .promises) t list (length list))
 
   pub first-placed : (r i : ℕ) → NoneGiven (tableRows F n s ++ rows F s (step-async t c list)) → BadPlace (F .base) (s .promises) t list r i
       → step F n s (step-async t c list) ≡ outcome (RefusedAt r i) s []

@@ -70,6 +70,10 @@ module _ (F : Form) (n : ℕ) (s : Tables) where
       → step F n s (step-async t c list) ≡ outcome (RefusedAt r i) s []
   the-first-entry-refuses = order.first-placed F n s
 
+  -- a place is at most P, however long the list is
+  pub a-place-is-at-most-P : (t c : ℕ) (list : List ℕ) (r i : ℕ) → step F n s (step-async t c list) .answer ≡ RefusedAt r i → i ≤ length (s .promises)
+  a-place-is-at-most-P = order.placed-within F n s
+
   -- "a refusal changes no table and no report"
   pub a-refusal-changes-nothing : (x : Step) → Refusal (step F n s x .answer) → (step F n s x .after ≡ s) × (step F n s x .words ≡ [])
   a-refusal-changes-nothing = order.refusal-unchanged F n s

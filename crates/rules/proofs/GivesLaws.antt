@@ -1,0 +1,42 @@
+-- Laws of specs/Contracts.antt, for the functions of the steps: how a refusal number that the code holds, and the four equations of what follows it, make up
+-- the outcome of a guarded step; how two numbers joined by `earlier` make up that of two lists of rows; and what it says that refusals 1 and 2 were not
+-- given. Assumes nothing.
+use Prim.Native.Nat.{ℕ}
+use mathlib.Core.Path.{_≡_, refl, sym}
+use mathlib.Core.Logic.{_≢_}
+use mathlib.Core.List.{List, _++_}
+use mathlib.Core.Bool.{true, not}
+use native.Mathlib.Omega.{arith}
+use borrow.Author.Tests.{eq-eqb, ne-eqb}
+use lib.ListN.{length}
+use Rattle.words.specs.Words.{Form, inBounds}
+use Rattle.words.proofs.ListLaws.{over-none}
+use Rattle.rules.specs.Tables.{Tables}
+use Rattle.rules.specs.Sound.{soundTest}
+use Rattle.rules.specs.Refusals.{Row, first, earlier, tableRows}
+use Rattle.rules.specs.Steps.{Outcome, guarded}
+use Rattle.rules.specs.Contracts.{Gives}
+use Rattle.rules.specs.declared.Answer.{Answer}
+use Rattle.rules.specs.declared.Answer.the-variants.{Refused}
+use Rattle.rules.proofs.RefusalLaws.{Numbered, first-append, first-none, not-is-false}
+
+pub rows-joined : {xs : List Row} (ys : List Row) {a b n : ℕ} → Numbered xs → a ≡ first xs → b ≡ first ys → n ≡ earlier a b → n ≡ first (xs ++ ys)
+rows-joined ys m e f g = rw (g, e, f) (sym (first-append ys m))
+
+-- "Each refusal returns its number and writes to no table and no report"
+pub gives-refused : {r n : ℕ} (s : Tables) (o : Outcome) (rs : List ℕ) → n ≡ r → n ≢ 0 → Gives (guarded r s o) rs (Refused n) (s .tasks) (s .promises) rs
+unfolding guarded
+gives-refused {r} {n} s o rs e h = rw (← e, ne-eqb n 0 h) (record { answer = refl; tasks = refl; promises = refl; report = sym (over-none rs) })
+
+pub gives-passed : {r n : ℕ} (s : Tables) {o : Outcome} {rs ts ps rs′ : List ℕ} {a : Answer} → n ≡ r → n ≡ 0 → Gives o rs a ts ps rs′
+    → Gives (guarded r s o) rs a ts ps rs′
+unfolding guarded
+gives-passed {r} {n} s e z g = rw (← e, eq-eqb n 0 z) g
+
+-- refusals 1 and 2 are not given: the bounds hold, and the tables pass the test
+pub tableRows-none : (F : Form) (n : ℕ) (s : Tables) → first (tableRows F n s) ≡ 0
+    → (inBounds F (length (s .tasks)) (length (s .promises)) n ≡ true) × (soundTest (F .base) s ≡ true)
+tableRows-none F n s e =
+    let (a, e₁) = first-none 1 (not (inBounds F (length (s .tasks)) (length (s .promises)) n)) _ (λ (z : _≡_ {A = ℕ} 1 0). omega arith) e in
+    let (b, e₂) = first-none 2 (not (soundTest (F .base) s)) _ (λ (z : _≡_ {A = ℕ} 2 0). omega arith) e₁ in
+    (not-is-false (inBounds F (length (s .tasks)) (length (s .promises)) n) a, not-is-false (soundTest (F .base) s) b)

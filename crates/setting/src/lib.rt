@@ -1,0 +1,68 @@
+// The step set: its owner sets a promise, and every task that waits on it becomes ready.
+ghost use mathlib.Core.Path.{_≡_};
+ghost use mathlib.Core.Bool.{true};
+ghost use lib.ListN.{length};
+ghost use Rattle.words.specs.Words.{small, inBounds};
+ghost use Rattle.rules.specs.Tables.{tables as tablesOf};
+ghost use Rattle.rules.specs.Refusals.{first};
+ghost use Rattle.rules.specs.Steps.{step-set, rows, raw, step};
+ghost use Rattle.rules.specs.Contracts.{Gives};
+use guards::actor_refusal;
+use guards::own_refusal;
+use rules::Answer;
+use sound::table_refusal;
+use tables::collect_word;
+use tables::earlier;
+use tables::put;
+use tables::replace_word;
+use words::PromiseWord;
+use words::TaskWord;
+
+// Refusals 3, 4, 5, 6, 8, 9 and 10.
+fn refusal(tasks: &[u16], promises: &[u16], t: u16, p: u16) -> u16
+    ensures { λ r. ⌜ r ≡ first (rows small (tablesOf (now (tasks .entry)) (now (promises .entry))) (step-set t p)) ⌝ }
+{
+    let a = actor_refusal(tasks, t);
+    let b = own_refusal(promises, t, p);
+    earlier(a, b)
+}
+
+// The step without refusals 1 and 2, for a caller that has tested the bounds and the tables.
+pub fn raw_set(
+    tasks: &mut [u16],
+    promises: &mut [u16],
+    report: &mut [u16],
+    t: u16,
+    p: u16,
+) -> Answer
+    requires { ⌜ inBounds small (length (now tasks)) (length (now promises)) (length (now report)) ≡ true ⌝ }
+    ensures { λ r. ⌜ Gives (raw small (tablesOf (now (tasks .entry)) (now (promises .entry))) (step-set t p)) (now (report .entry)) r (now (tasks .exit)) (now (promises .exit)) (now (report .exit)) ⌝ }
+{
+    let r = refusal(tasks, promises, t, p);
+    if r != 0 {
+        return Answer::Refused(r);
+    }
+    let w = TaskWord::waits_on(p);
+    let n = collect_word(tasks, w, report, 0);
+    replace_word(tasks, w, TaskWord::READY);
+    put(promises, p as usize, PromiseWord::SET);
+    let woken = n as u16;
+    Answer::Set(woken)
+}
+
+// The step: for tables and a report of any lengths, with any words in them, and any numbers.
+pub fn step_set(
+    tasks: &mut [u16],
+    promises: &mut [u16],
+    report: &mut [u16],
+    t: u16,
+    p: u16,
+) -> Answer
+    ensures { λ r. ⌜ Gives (step small (length (now (report .entry))) (tablesOf (now (tasks .entry)) (now (promises .entry))) (step-set t p)) (now (report .entry)) r (now (tasks .exit)) (now (promises .exit)) (now (report .exit)) ⌝ }
+{
+    let d = table_refusal(tasks, promises, report.len());
+    if d != 0 {
+        return Answer::Refused(d);
+    }
+    raw_set(tasks, promises, report, t, p)
+}

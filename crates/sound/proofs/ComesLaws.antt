@@ -1,0 +1,45 @@
+-- Laws of `comes` and `allBelow` as the loops of this crate want them: what is left at each way out of a turn, and a turn that tests one more number.
+-- Assumes nothing.
+use Prim.Native.Nat.{ℕ, zero, suc, _+_, _-_, _≤_, _<_}
+use mathlib.Core.Path.{_≡_, refl, sym, ap, _∙_}
+use mathlib.Core.Bool.{Bool, true, false, _&&_}
+use native.Mathlib.Omega.{arith}
+use native.Mathlib.Numerals.{add-one}
+use Rattle.words.specs.Lists.{allBelow}
+use Rattle.rules.specs.Tables.{Tables}
+use Rattle.rules.specs.Sound.{Hop, ready, lost, to, hop, comes}
+
+-- n is the fuel that is left
+module _ (s : Tables) (v n : ℕ) where
+  pub comes-zero : n ≤ 0 → comes n s v ≡ false
+  unfolding comes
+  comes-zero h = let e : n ≡ 0 = omega arith in rw e
+
+  pub comes-ready : 0 < n → hop s v ≡ ready → comes n s v ≡ true
+  unfolding comes
+  comes-ready h f = let e : n ≡ suc (n - 1) = omega arith in rw (e, f)
+
+  pub comes-lost : 0 < n → hop s v ≡ lost → comes n s v ≡ false
+  unfolding comes
+  comes-lost h f = let e : n ≡ suc (n - 1) = omega arith in rw (e, f)
+
+  pub comes-on : (u : ℕ) → 0 < n → hop s v ≡ to u → comes n s v ≡ comes (n - 1) s u
+  unfolding comes
+  comes-on u h f = let e : suc (n - 1) ≡ n = omega arith in ap (λ (m : ℕ). comes m s v) (sym e) ∙ rw f
+
+-- `good` says whether every number below i passes, of the n to be tested
+pub record Tested (f : ℕ → Bool) (n : ℕ) (good : Bool) (i : ℕ) : Type 0 where
+  pub within : i ≤ n
+  pub below : good ≡ allBelow i f
+
+module _ (f : ℕ → Bool) (n : ℕ) where
+  pub tested-start : Tested f n true 0
+  unfolding allBelow
+  tested-start = record { within = omega arith; below = refl }
+
+  pub tested-turn : {good now : Bool} {i : ℕ} → Tested f n good i → i < n → now ≡ f i → Tested f n (good && now) (i + 1)
+  unfolding allBelow
+  tested-turn t h e = record { within = omega arith; below = rw (add-one, t .below, e) }
+
+  pub tested-end : {good : Bool} {i : ℕ} → Tested f n good i → n ≤ i → good ≡ allBelow n f
+  tested-end {i = i} t h = let e : i ≡ n = omega (arith, t .within) in t .below ∙ ap (λ (k : ℕ). allBelow k f) e
