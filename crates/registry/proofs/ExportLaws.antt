@@ -1,0 +1,47 @@
+-- Laws of specs/Exports.antt: the two ways out of an exported step, and that its contract leaves one outcome. Assumes nothing.
+use Prim.Native.Nat.{ℕ, _≤_, _<_}
+use mathlib.Core.Path.{_≡_, refl, sym, ap, _∙_}
+use mathlib.Core.List.{List, [], _∷_, _++_}
+use native.Mathlib.Omega.{arith}
+use borrow.Author.Tests.{lt-ltb, le-ltb}
+use lib.ListN.{length, take}
+use lib.Seq.{sets}
+use Rattle.words.proofs.ListLaws.{over-sets}
+use Rattle.rules.specs.Tables.{Tables}
+use Rattle.rules.specs.Answers.{numberOf, valuesOf}
+use Rattle.rules.specs.Steps.{Outcome}
+use Rattle.rules.specs.Contracts.{Gives}
+use Rattle.rules.specs.declared.Answer.{Answer}
+use Rattle.rules.specs.declared.Answer.the-variants.{Opened, Made, Set, Value, Blamed, Waits, Cycle, Started, Ended, Refused, RefusedAt}
+use Rattle.registry.specs.Exports.{answerWords, Exported, exported, Exports}
+
+pub answerWords-length : (a : Answer) → length (answerWords a) ≡ 4
+unfolding answerWords valuesOf
+answerWords-length Opened = refl
+answerWords-length Made = refl
+answerWords-length (Set n) = refl
+answerWords-length Value = refl
+answerWords-length (Blamed b) = refl
+answerWords-length (Waits k) = refl
+answerWords-length (Cycle k) = refl
+answerWords-length Started = refl
+answerWords-length (Ended m n) = refl
+answerWords-length (Refused r) = refl
+answerWords-length (RefusedAt r i) = refl
+
+-- fewer than four words are lent for the answer
+pub exports-short : (s : Tables) (rs ws : List ℕ) (o : Outcome) → length ws < 4 → Exports (exported s rs ws o) 1 (s .tasks) (s .promises) rs ws
+unfolding exported
+exports-short s rs ws o h = rw (lt-ltb (length ws) 4 h) (record { number = refl; tasks = refl; promises = refl; report = refl; answer = refl })
+
+pub exports-step : (s : Tables) (ws : List ℕ) {rs ts ps rs′ ws′ : List ℕ} {o : Outcome} {a : Answer} {r : ℕ} → 4 ≤ length ws → Gives o rs a ts ps rs′ → r ≡ numberOf a
+    → ws′ ≡ sets ws 0 (answerWords a) → Exports (exported s rs ws o) r ts ps rs′ ws′
+unfolding exported
+exports-step s ws {a = a} h g e w =
+    rw (le-ltb (length ws) 4 h, ← g .answer)
+    (record { number = e; tasks = g .tasks; promises = g .promises; report = g .report; answer = w ∙ sym (over-sets (answerWords a) ws (omega (arith, answerWords-length a))) })
+
+-- any two outcomes that the contract of an exported step allows coincide
+pub exports-unique : {e : Exported} {r r′ : ℕ} {ts ts′ ps ps′ rs rs′ ws ws′ : List ℕ} → Exports e r ts ps rs ws → Exports e r′ ts′ ps′ rs′ ws′
+    → (r ≡ r′) × (ts ≡ ts′) × (ps ≡ ps′) × (rs ≡ rs′) × (ws ≡ ws′)
+exports-unique g h = (g .number ∙ sym (h .number), g .tasks ∙ sym (h .tasks), g .promises ∙ sym (h .promises), g .report ∙ sym (h .report), g .answer ∙ sym (h .answer))
