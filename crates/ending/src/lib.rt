@@ -79,7 +79,8 @@ pub fn raw_end(tasks: &mut [u16], promises: &mut [u16], report: &mut [u16], t: u
     }
     let v = PromiseWord::owned_by(t);
     let m = collect_word(promises, v, report, 0);
-    let n = collect_waiting(tasks, promises, v, report, m) - m;
+    let e = collect_waiting(tasks, promises, v, report, m);
+    let n = e - m;
     wake_waiting(tasks, promises, v);
     put(tasks, t as usize, TaskWord::ENDED);
     let b = PromiseWord::blamed_on(t);

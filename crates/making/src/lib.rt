@@ -35,9 +35,9 @@ pub fn raw_new(
     requires { ⌜ inBounds small (length (now tasks)) (length (now promises)) (length (now report)) ≡ true ⌝ }
     ensures { λ r. ⌜ Gives (raw small (tablesOf (now (tasks .entry)) (now (promises .entry))) (step-new t p)) (now (report .entry)) r (now (tasks .exit)) (now (promises .exit)) (now (report .exit)) ⌝ }
 {
-    let n = refusal(tasks, promises, t, p);
-    if n != 0 {
-        return Answer::Refused(n);
+    let r = refusal(tasks, promises, t, p);
+    if r != 0 {
+        return Answer::Refused(r);
     }
     let w = PromiseWord::owned_by(t);
     put(promises, p as usize, w);

@@ -1,13 +1,13 @@
 -- Laws of `comes` and `allBelow` as the loops of this crate want them: what is left at each way out of a turn, and a turn that tests one more number.
 -- Assumes nothing.
-use Prim.Native.Nat.{ℕ, zero, suc, _+_, _-_, _≤_, _<_}
+use Prim.Native.Nat.{ℕ, suc, _+_, _-_, _≤_, _<_}
 use mathlib.Core.Path.{_≡_, refl, sym, ap, _∙_}
 use mathlib.Core.Bool.{Bool, true, false, _&&_}
 use native.Mathlib.Omega.{arith}
 use native.Mathlib.Numerals.{add-one}
 use Rattle.words.specs.Lists.{allBelow}
 use Rattle.rules.specs.Tables.{Tables}
-use Rattle.rules.specs.Sound.{Hop, ready, lost, to, hop, comes}
+use Rattle.rules.specs.Sound.{ready, lost, to, hop, comes}
 
 -- n is the fuel that is left
 module _ (s : Tables) (v n : ℕ) where

@@ -23,7 +23,7 @@ pub enum Next {
 }
 
 // A word as an index.
-pub fn wide(w: u16) -> usize
+fn wide(w: u16) -> usize
     ensures { λ r. ⌜ r ≡ w ⌝ }
 {
     w as usize

@@ -98,10 +98,10 @@ pub fn raw_async(
     let k = first_bad(promises, t, list);
     if k < list.len() {
         let e = entry_refusal(promises, t, list, k);
-        let first = k as u16;
+        let place = k as u16;
         return Answer::RefusedAt {
             number: e,
-            place: first,
+            place: place,
         };
     }
     put(tasks, c as usize, TaskWord::READY);

@@ -9,7 +9,6 @@ use Rattle.rules.specs.Sound.{Hop, ready, lost, to, hop}
 use Rattle.rules.specs.Steps.{Found, astray, back, free, walk, walkBy}
 use Rattle.walks.specs.Trails.{foundRead}
 use Rattle.walks.specs.declared.Trail.{Trail}
-use Rattle.walks.specs.declared.Trail.the-variants.{Back, Free}
 
 -- the number of owners that a walk answers with; 0 where the way is lost
 abbrev pub reached : Found → ℕ
@@ -29,10 +28,6 @@ walk-reached (suc n) s t u k h = go (eqb u t) (hop s u) (λ x. walk-reached n s 
     go false lost rec = omega arith
     go false (to x) rec = omega (arith, rec x)
 
--- the count of a trail, where the first owner was counted as 1
-module _ (n : ℕ) (s : Tables) (t u : ℕ) {r : Trail} {k : ℕ} (e : foundRead r ≡ walk n s t u 1) where
-  pub walk-back-most : r ≡ Back k → k ≤ n
-  walk-back-most h = omega (arith, ap reached (sym (ap foundRead h) ∙ e), walk-reached n s t u 1 (omega arith))
-
-  pub walk-free-most : r ≡ Free k → k ≤ n
-  walk-free-most h = omega (arith, ap reached (sym (ap foundRead h) ∙ e), walk-reached n s t u 1 (omega arith))
+-- the count of a trail r, where the first owner was counted as 1
+pub trail-most : (n : ℕ) (s : Tables) (t u : ℕ) {q r : Trail} → foundRead q ≡ walk n s t u 1 → q ≡ r → reached (foundRead r) ≤ n
+trail-most n s t u e h = omega (arith, ap reached (sym (ap foundRead h) ∙ e), walk-reached n s t u 1 (omega arith))

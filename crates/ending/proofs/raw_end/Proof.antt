@@ -27,28 +27,35 @@ same-length c = search needs
 
 returns : tie.Need-returns
 returns c =
-    let a = c .before .before .before .before .before .before .args in
-    gives-refused (tables (a .tasks .now) (a .promises .now)) _ _ (c .before .actor-refusal .ensures) (c .if1 .taken)
+    let asked = c .before in
+    let start = asked .before .before .before .before .before in
+    gives-refused (tables (start .args .tasks .now) (start .args .promises .now)) _ _ (asked .actor-refusal .ensures) (c .if1 .taken)
 
 owned-by-requires : tie.Need-owned-by-requires
 owned-by-requires c κs =
-    let a = c .before .before .before .before .before .before .args in
-    let b = inBounds-true small (length (a .tasks .now)) (length (a .promises .now)) (length (a .report .now)) (c .before .before .before .before .before .before .pre) in
-    let f = actorRows-none (a .tasks .now) (a .t) [] (sym (c .before .actor-refusal .ensures) ∙ c .if1 .left) in
+    let asked = c .before in
+    let start = asked .before .before .before .before .before in
+    let a = start .args in
+    let b = inBounds-true small (length (a .tasks .now)) (length (a .promises .now)) (length (a .report .now)) (start .pre) in
+    let f = actorRows-none (a .tasks .now) (a .t) [] (sym (asked .actor-refusal .ensures) ∙ c .if1 .left) in
     omega (arith, b .tasks, f .0 .below)
 
 collect-word-requires : tie.Need-collect-word-requires
 collect-word-requires c κs =
-    let a = c .before .before .before .before .before .before .before .before .before .args in
-    let b = inBounds-true small (length (a .tasks .now)) (length (a .promises .now)) (length (a .report .now)) (c .before .before .before .before .before .before .before .before .before .pre) in
+    let start = c .before .before .before .before .before .before .before .before .before in
+    let a = start .args in
+    let b = inBounds-true small (length (a .tasks .now)) (length (a .promises .now)) (length (a .report .now)) (start .pre) in
     (omega (arith, b .room), omega (arith, b .promises))
 
 collect-waiting-requires : tie.Need-collect-waiting-requires
 collect-waiting-requires c κs =
-    let a = c .before .before .before .before .before .before .before .before .before .before .before .before .before .before .before .args in
-    let b = inBounds-true small (length (a .tasks .now)) (length (a .promises .now)) (length (a .report .now)) (c .before .before .before .before .before .before .before .before .before .before .before .before .before .before .before .pre) in
-    let w = c .before .before .before .before .before .collect-word in
-    let l = places-length (is (c .before .before .before .before .before .before .before .before .owned-by .result)) 0 (a .promises .now) in
+    let first = c .before .before .before .before .before in
+    let word = first .before .before .before in
+    let start = word .before .before .before .before .before .before .before in
+    let a = start .args in
+    let b = inBounds-true small (length (a .tasks .now)) (length (a .promises .now)) (length (a .report .now)) (start .pre) in
+    let w = first .collect-word in
+    let l = places-length (is (word .owned-by .result)) 0 (a .promises .now) in
     (omega (arith, b .room, l, w .ensures .0, w .kept .1 .1 .0), omega (arith, b .tasks))
 
 sub-n : tie.Need-sub-n
@@ -62,9 +69,12 @@ put-requires c κs = search needs
 
 blamed-on-requires : tie.Need-blamed-on-requires
 blamed-on-requires c κs =
-    let a = c .before .before .before .before .before .before .before .before .before .before .before .before .before .before .before .before .before .before .before .before .before .before .before .before .before .before .before .args in
-    let b = inBounds-true small (length (a .tasks .now)) (length (a .promises .now)) (length (a .report .now)) (c .before .before .before .before .before .before .before .before .before .before .before .before .before .before .before .before .before .before .before .before .before .before .before .before .before .before .before .pre) in
-    let f = actorRows-none (a .tasks .now) (a .t) [] (sym (c .before .before .before .before .before .before .before .before .before .before .before .before .before .before .before .before .before .before .before .before .before .before .actor-refusal .ensures) ∙ c .before .before .before .before .before .before .before .before .before .before .before .before .before .before .before .before .before .before .before .before .before .if1 .left) in
+    let passed = c .before .before .before .before .before .before .before .before .before .before .before .before .before .before .before .before .before .before .before .before .before in
+    let asked = passed .before in
+    let start = asked .before .before .before .before .before in
+    let a = start .args in
+    let b = inBounds-true small (length (a .tasks .now)) (length (a .promises .now)) (length (a .report .now)) (start .pre) in
+    let f = actorRows-none (a .tasks .now) (a .t) [] (sym (asked .actor-refusal .ensures) ∙ passed .if1 .left) in
     omega (arith, b .tasks, f .0 .below)
 
 replace-word-requires : tie.Need-replace-word-requires
@@ -72,17 +82,21 @@ replace-word-requires c κs = search needs
 
 cast-promise-count : tie.Need-cast-promise-count
 cast-promise-count c =
-    let a = c .before .before .before .before .before .before .before .before .before .before .before .before .before .before .before .before .before .before .before .before .before .before .before .before .before .before .before .before .before .before .before .before .args in
-    let b = inBounds-true small (length (a .tasks .now)) (length (a .promises .now)) (length (a .report .now)) (c .before .before .before .before .before .before .before .before .before .before .before .before .before .before .before .before .before .before .before .before .before .before .before .before .before .before .before .before .before .before .before .before .pre) in
-    let l = places-length (is (c .before .before .before .before .before .before .before .before .before .before .before .before .before .before .before .before .before .before .before .before .before .before .before .before .before .owned-by .result)) 0 (a .promises .now) in
-    omega (arith, b .promises, l, c .before .before .before .before .before .before .before .before .before .before .before .before .before .before .before .before .before .before .before .before .before .before .collect-word .ensures .0)
+    let first = c .before .before .before .before .before .before .before .before .before .before .before .before .before .before .before .before .before .before .before .before .before .before in
+    let word = first .before .before .before in
+    let start = word .before .before .before .before .before .before .before in
+    let a = start .args in
+    let b = inBounds-true small (length (a .tasks .now)) (length (a .promises .now)) (length (a .report .now)) (start .pre) in
+    omega (arith, b .promises, first .collect-word .ensures .0, places-length (is (word .owned-by .result)) 0 (a .promises .now))
 
 cast-task-count : tie.Need-cast-task-count
 cast-task-count c =
-    let a = c .before .before .before .before .before .before .before .before .before .before .before .before .before .before .before .before .before .before .before .before .before .before .before .before .before .before .before .before .before .before .before .before .args in
-    let b = inBounds-true small (length (a .tasks .now)) (length (a .promises .now)) (length (a .report .now)) (c .before .before .before .before .before .before .before .before .before .before .before .before .before .before .before .before .before .before .before .before .before .before .before .before .before .before .before .before .before .before .before .before .pre) in
-    let l = places-length (awaits (a .promises .now) (c .before .before .before .before .before .before .before .before .before .before .before .before .before .before .before .before .before .before .before .before .before .before .before .before .before .owned-by .result)) 0 (a .tasks .now) in
-    omega (arith, b .tasks, l, c .before .before .before .before .before .before .before .before .before .before .before .before .before .before .before .before .collect-waiting .ensures .0)
+    let second = c .before .before .before .before .before .before .before .before .before .before .before .before .before .before .before .before in
+    let word = second .before .before .before .before .before .before .before .before .before in
+    let start = word .before .before .before .before .before .before .before in
+    let a = start .args in
+    let b = inBounds-true small (length (a .tasks .now)) (length (a .promises .now)) (length (a .report .now)) (start .pre) in
+    omega (arith, b .tasks, second .collect-waiting .ensures .0, places-length (awaits (a .promises .now) (word .owned-by .result)) 0 (a .tasks .now))
 
 same-length-2 : tie.Need-same-length-2
 same-length-2 c = search needs
@@ -95,21 +109,31 @@ same-length-4 c = search needs
 
 returns-2 : tie.Need-returns-2
 returns-2 c =
-    let a = c .before .before .before .before .before .before .before .before .before .before .before .before .before .before .before .before .before .before .before .before .before .before .before .before .before .before .before .before .before .before .before .before .args in
-    let b = inBounds-true small (length (a .tasks .now)) (length (a .promises .now)) (length (a .report .now)) (c .before .before .before .before .before .before .before .before .before .before .before .before .before .before .before .before .before .before .before .before .before .before .before .before .before .before .before .before .before .before .before .before .pre) in
-    let v = c .before .before .before .before .before .before .before .before .before .before .before .before .before .before .before .before .before .before .before .before .before .before .before .before .before .owned-by in
-    let w = c .before .before .before .before .before .before .before .before .before .before .before .before .before .before .before .before .before .before .before .before .before .before .collect-word in
-    let x = c .before .before .before .before .before .before .before .before .before .before .before .before .before .before .before .before .collect-waiting in
-    let omitted = places (is (v .result)) 0 (a .promises .now) in
-    let woken = places (awaits (a .promises .now) (v .result)) 0 (a .tasks .now) in
-    let room : length omitted + length woken ≤ length (a .report .now) = omega (arith, b .room, places-length (is (v .result)) 0 (a .promises .now), places-length (awaits (a .promises .now) (v .result)) 0 (a .tasks .now)) in
-    gives-passed (tables (a .tasks .now) (a .promises .now)) (c .before .before .before .before .before .before .before .before .before .before .before .before .before .before .before .before .before .before .before .before .before .before .before .before .before .before .before .actor-refusal .ensures) (c .before .before .before .before .before .before .before .before .before .before .before .before .before .before .before .before .before .before .before .before .before .before .before .before .before .before .if1 .left)
-    (rw (← v .ensures)
+    let blamed = c .before .before in
+    let blame = blamed .before .before in
+    let ended = blame .before .before .before in
+    let woke = ended .before .before .before .before in
+    let second = woke .before .before .before .before .before in
+    let first = second .before .before .before .before .before .before in
+    let word = first .before .before .before in
+    let passed = word .before in
+    let asked = passed .before in
+    let start = asked .before .before .before .before .before in
+    let a = start .args in
+    let b = inBounds-true small (length (a .tasks .now)) (length (a .promises .now)) (length (a .report .now)) (start .pre) in
+    let v = word .owned-by .result in
+    let w = first .collect-word .ensures in
+    let x = second .collect-waiting .ensures in
+    let omitted = places (is v) 0 (a .promises .now) in
+    let woken = places (awaits (a .promises .now) v) 0 (a .tasks .now) in
+    let room : length omitted + length woken ≤ length (a .report .now) = omega (arith, b .room, places-length (is v) 0 (a .promises .now), places-length (awaits (a .promises .now) v) 0 (a .tasks .now)) in
+    gives-passed (tables (a .tasks .now) (a .promises .now)) (asked .actor-refusal .ensures) (passed .if1 .left)
+    (rw (← word .owned-by .ensures)
     (record {
-      answer = ap₂ Ended (omega (arith, w .ensures .0)) (omega (arith, w .ensures .0, x .ensures .0));
-      tasks = rw (← c .before .before .before .before .before .before .before .before .before .before .before .wake-waiting .ensures) (c .before .before .before .before .before .before .before .put .ensures);
-      promises = rw (← c .before .before .before .before .blamed-on .ensures) (c .before .before .replace-word .ensures);
-      report = over-append omitted woken (a .report .now) room (w .ensures .0) (w .ensures .1) (x .ensures .1);
+      answer = ap₂ Ended (omega (arith, w .0)) (omega (arith, w .0, x .0));
+      tasks = rw (← woke .wake-waiting .ensures) (ended .put .ensures);
+      promises = rw (← blame .blamed-on .ensures) (blamed .replace-word .ensures);
+      report = over-append omitted woken (a .report .now) room (w .0) (w .1) (x .1);
     }))
 
 pub raw-end-spec : {M : Type 1} → statement M

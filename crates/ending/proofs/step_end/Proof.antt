@@ -20,13 +20,17 @@ same-length-2 c = search needs
 
 returns : tie.Need-returns
 returns c =
-    let a = c .before .before .before .before .before .before .before .args in
-    gives-refused (tables (a .tasks .now) (a .promises .now)) _ _ (c .before .table-refusal .ensures) (c .if1 .taken)
+    let asked = c .before in
+    let start = asked .before .before .before .before .before .before in
+    gives-refused (tables (start .args .tasks .now) (start .args .promises .now)) _ _ (asked .table-refusal .ensures) (c .if1 .taken)
 
 raw-end-requires : tie.Need-raw-end-requires
 raw-end-requires c κs =
-    let a = c .before .before .before .before .before .before .before .before .before .before .args in
-    tableRows-none small (length (a .report .now)) (tables (a .tasks .now) (a .promises .now)) (sym (c .before .before .before .before .table-refusal .ensures) ∙ c .before .before .before .if1 .left) .0
+    let passed = c .before .before .before in
+    let asked = passed .before in
+    let start = asked .before .before .before .before .before .before in
+    let a = start .args in
+    tableRows-none small (length (a .report .now)) (tables (a .tasks .now) (a .promises .now)) (sym (asked .table-refusal .ensures) ∙ passed .if1 .left) .0
 
 same-length-3 : tie.Need-same-length-3
 same-length-3 c = search needs
@@ -39,8 +43,11 @@ same-length-5 c = search needs
 
 returns-2 : tie.Need-returns-2
 returns-2 c =
-    let a = c .before .before .before .before .before .before .before .before .before .before .before .before .before .before .before .before .before .args in
-    gives-passed (tables (a .tasks .now) (a .promises .now)) (c .before .before .before .before .before .before .before .before .before .before .before .table-refusal .ensures) (c .before .before .before .before .before .before .before .before .before .before .if1 .left) (c .before .before .before .before .before .before .raw-end .ensures)
+    let done = c .before .before .before .before .before .before in
+    let passed = done .before .before .before .before in
+    let asked = passed .before in
+    let start = asked .before .before .before .before .before .before in
+    gives-passed (tables (start .args .tasks .now) (start .args .promises .now)) (asked .table-refusal .ensures) (passed .if1 .left) (done .raw-end .ensures)
 
 pub step-end-spec : {M : Type 1} → statement M
 step-end-spec =

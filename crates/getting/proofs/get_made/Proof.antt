@@ -1,3 +1,4 @@
+-- `getting::get_made` meets its contract: each return is a law of `got`. Assumes nothing.
 use borrow.Author.Needs.{needs}
 use Rattle.rules.specs.Tables.{tables}
 use Rattle.getting.proofs.FollowedLaws.{got-set, got-blamed, got-followed}

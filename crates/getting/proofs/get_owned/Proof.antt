@@ -1,10 +1,11 @@
+-- `getting::get_owned` meets its contract: each arm is a law of `followed`, and a count is at most the number of tasks, so it fits. Assumes nothing.
 use Prim.Native.Nat.{_≤_}
 use native.Mathlib.Omega.{arith}
 use lib.ListN.{length}
 use borrow.Author.Needs.{needs}
 use Rattle.rules.specs.Tables.{tables}
 use Rattle.getting.proofs.FollowedLaws.{followed-back, followed-free, followed-astray}
-use Rattle.walks.proofs.CountLaws.{walk-back-most, walk-free-most}
+use Rattle.walks.proofs.CountLaws.{trail-most}
 use Rattle.getting.proofs.get_owned.Statement.{statement}
 use Rattle.getting.proofs.get_owned.Tie as tie
 
@@ -22,7 +23,7 @@ enum-known-trail c = search needs
 
 cast-n : tie.Need-cast-n
 cast-n c =
-    let most : c .before .trail .given .0 .0 ≤ length (c .before .before .before .before .before .before .before .before .before .before .before .args .tasks .now) = walk-back-most _ _ _ _ (c .before .before .before .follow .ensures) (c .before .trail .given .1) in
+    let most : c .before .trail .given .0 .0 ≤ length (c .before .before .before .before .before .before .before .before .before .before .before .args .tasks .now) = trail-most _ _ _ _ (c .before .before .before .follow .ensures) (c .before .trail .given .1) in
     omega (arith, most)
 
 write-pairs-requires : tie.Need-write-pairs-requires
@@ -40,7 +41,7 @@ same-length-3 c = search needs
 returns : tie.Need-returns
 returns c =
     let a = c .before .before .before .before .before .before .before .before .before .before .before .before .before .before .before .before .before .args in
-    let most : c .before .before .before .before .before .before .before .trail .given .0 .0 ≤ length (a .tasks .now) = walk-back-most _ _ _ _ (c .before .before .before .before .before .before .before .before .before .follow .ensures) (c .before .before .before .before .before .before .before .trail .given .1) in
+    let most : c .before .before .before .before .before .before .before .trail .given .0 .0 ≤ length (a .tasks .now) = trail-most _ _ _ _ (c .before .before .before .before .before .before .before .before .before .follow .ensures) (c .before .before .before .before .before .before .before .trail .given .1) in
     rw (← c .before .before .before .before .before .before .before .before .before .before .before .before .number-at .ensures)
     (followed-back (tables (a .tasks .now) (a .promises .now)) _ _ (c .before .before .before .before .before .before .before .before .before .follow .ensures) (c .before .before .before .before .before .before .before .trail .given .1) (omega (arith, most)) (c .before .before .write-pairs .ensures))
 
@@ -49,7 +50,7 @@ enum-known-trail-2 c = search needs
 
 cast-n-2 : tie.Need-cast-n-2
 cast-n-2 c =
-    let most : c .before .trail2 .given .0 .0 ≤ length (c .before .before .before .before .before .before .before .before .before .before .before .args .tasks .now) = walk-free-most _ _ _ _ (c .before .before .before .follow .ensures) (c .before .trail2 .given .1) in
+    let most : c .before .trail2 .given .0 .0 ≤ length (c .before .before .before .before .before .before .before .before .before .before .before .args .tasks .now) = trail-most _ _ _ _ (c .before .before .before .follow .ensures) (c .before .trail2 .given .1) in
     omega (arith, most)
 
 wait-on-requires : tie.Need-wait-on-requires

@@ -1,3 +1,4 @@
+-- `getting::raw_get` meets its contract: a refusal, or what `get_made` gives. Assumes nothing.
 use mathlib.Core.Path.{sym, _∙_}
 use native.Mathlib.Omega.{arith}
 use lib.ListN.{length}

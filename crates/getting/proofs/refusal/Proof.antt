@@ -1,3 +1,4 @@
+-- `getting::refusal` meets its contract: it joins the refusals of the actor and of the promise. Assumes nothing.
 use borrow.Author.Needs.{needs}
 use Rattle.rules.proofs.GivesLaws.{rows-joined}
 use Rattle.rules.proofs.RefusalLaws.{actorRows-numbered}

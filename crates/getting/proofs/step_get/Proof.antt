@@ -1,3 +1,4 @@
+-- `getting::step_get` meets its contract: refusal 1 or 2, or what `raw_get` gives within the bounds. Assumes nothing.
 use mathlib.Core.Path.{sym, _∙_}
 use lib.ListN.{length}
 use borrow.Author.Needs.{needs}

@@ -1,3 +1,4 @@
+-- `getting::wait_on` meets its contract: it is one store. Assumes nothing.
 use borrow.Author.Needs.{needs}
 use Rattle.getting.proofs.wait_on.Statement.{statement}
 use Rattle.getting.proofs.wait_on.Tie as tie

@@ -24,14 +24,18 @@ same-length-2 c = search needs
 
 returns : tie.Need-returns
 returns c =
-    let a = c .before .before .before .before .before .before .before .args in
-    gives-refused (tables (a .tasks .now) (a .promises .now)) _ _ (c .before .refusal .ensures) (c .if1 .taken)
+    let asked = c .before in
+    let start = asked .before .before .before .before .before .before in
+    gives-refused (tables (start .args .tasks .now) (start .args .promises .now)) _ _ (asked .refusal .ensures) (c .if1 .taken)
 
 owned-by-requires : tie.Need-owned-by-requires
 owned-by-requires c κs =
-    let a = c .before .before .before .before .before .before .before .args in
-    let f = actorRows-none (a .tasks .now) (a .t) (newRows (a .promises .now) (a .p)) (sym (c .before .refusal .ensures) ∙ c .if1 .left) in
-    omega (arith, f .0 .below, inBounds-true small (length (a .tasks .now)) (length (a .promises .now)) (length (a .report .now)) (c .before .before .before .before .before .before .before .pre) .tasks)
+    let asked = c .before in
+    let start = asked .before .before .before .before .before .before in
+    let a = start .args in
+    let b = inBounds-true small (length (a .tasks .now)) (length (a .promises .now)) (length (a .report .now)) (start .pre) in
+    let f = actorRows-none (a .tasks .now) (a .t) (newRows (a .promises .now) (a .p)) (sym (asked .refusal .ensures) ∙ c .if1 .left) in
+    omega (arith, b .tasks, f .0 .below)
 
 put-requires : tie.Need-put-requires
 put-requires c κs = search needs
@@ -44,9 +48,13 @@ same-length-4 c = search needs
 
 returns-2 : tie.Need-returns-2
 returns-2 c =
-    let a = c .before .before .before .before .before .before .before .before .before .before .before .before .args in
-    gives-passed (tables (a .tasks .now) (a .promises .now)) (c .before .before .before .before .before .before .refusal .ensures) (c .before .before .before .before .before .if1 .left)
-    (record { answer = refl; tasks = refl; promises = rw (← c .before .before .before .before .owned-by .ensures) (c .before .before .put .ensures); report = sym (over-none _) })
+    let stored = c .before .before in
+    let word = stored .before .before in
+    let passed = word .before in
+    let asked = passed .before in
+    let start = asked .before .before .before .before .before .before in
+    gives-passed (tables (start .args .tasks .now) (start .args .promises .now)) (asked .refusal .ensures) (passed .if1 .left)
+    (record { answer = refl; tasks = refl; promises = rw (← word .owned-by .ensures) (stored .put .ensures); report = sym (over-none _) })
 
 pub raw-new-spec : {M : Type 1} → statement M
 raw-new-spec =

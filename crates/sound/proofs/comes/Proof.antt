@@ -1,3 +1,4 @@
+-- `sound::comes` meets its contract. The loop keeps: what is left to follow, with the fuel that is left, answers as the whole does. Assumes nothing.
 use mathlib.Core.Path.{_≡_, sym, ap, _∙_}
 use lib.ListN.{length}
 use borrow.Author.Needs.{needs}

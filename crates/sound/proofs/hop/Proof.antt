@@ -1,3 +1,4 @@
+-- `sound::hop` meets its contract: the word read decides, and the owner's part is `hop_owner`'s. Assumes nothing.
 use borrow.Author.Tests.{le-leb, ne-eqb}
 use borrow.Author.Needs.{needs}
 use Rattle.words.proofs.Tests.{tests}

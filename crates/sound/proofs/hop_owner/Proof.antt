@@ -1,3 +1,4 @@
+-- `sound::hop_owner` meets its contract: each return knows the two tests of `hopOwner`. Assumes nothing.
 use borrow.Author.Tests.{lt-ltb, le-ltb, le-leb}
 use borrow.Author.Needs.{needs}
 use Rattle.words.proofs.Tests.{tests}

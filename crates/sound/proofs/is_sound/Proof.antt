@@ -1,3 +1,4 @@
+-- `sound::is_sound` meets its contract: it joins the tests of the two tables. Assumes nothing.
 use borrow.Author.Needs.{needs}
 use Rattle.rules.specs.Sound.{soundTest}
 use Rattle.sound.proofs.is_sound.Statement.{statement}

@@ -1,3 +1,4 @@
+-- `sound::live` meets its contract: each return knows which test of the word holds. Assumes nothing.
 use borrow.Author.Needs.{needs}
 use Rattle.words.proofs.Tests.{tests}
 use Rattle.sound.proofs.live.Statement.{statement}

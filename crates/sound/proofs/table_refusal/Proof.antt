@@ -1,3 +1,4 @@
+-- `sound::table_refusal` meets its contract: each return knows which of the two rows applies. Assumes nothing.
 use borrow.Author.Needs.{needs}
 use Rattle.rules.specs.Refusals.{first}
 use Rattle.sound.proofs.table_refusal.Statement.{statement}

@@ -1,3 +1,4 @@
+-- `sound::task_passes` meets its contract: each return knows which part of `taskPasses` decides. Assumes nothing.
 use borrow.Author.Needs.{needs}
 use Rattle.words.proofs.Tests.{tests}
 use Rattle.rules.specs.Sound.{taskPasses}

@@ -36,7 +36,7 @@ loop-less : tie.Need-loop-less Inv-loop μ-loop
 loop-less c = search (needs, tests)
 
 loop-again : tie.Need-loop-again Inv-loop μ-loop
-loop-again c = rw (c .before .before .put .ensures) (handedOut-turn (c .before .before .before .before .before .before .loop .inv) (c .before .before .before .before .before .loop-test .taken))
+loop-again c = rw (c .before .before .put .ensures) (handedOut-turn (c .before .before .before .before .before .before .loop .inv) (omega arith))
 
 same-length : tie.Need-same-length Inv-loop μ-loop
 same-length c = c .before .loop .inv .same

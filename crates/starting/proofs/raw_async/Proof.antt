@@ -28,8 +28,9 @@ same-length-2 c = search needs
 
 returns : tie.Need-returns
 returns c =
-    let a = c .before .before .before .before .before .before .before .before .args in
-    gives-refused (tables (a .tasks .now) (a .promises .now)) _ _ (c .before .refusal .ensures) (c .if1 .taken)
+    let asked = c .before in
+    let start = asked .before .before .before .before .before .before .before in
+    gives-refused (tables (start .args .tasks .now) (start .args .promises .now)) _ _ (asked .refusal .ensures) (c .if1 .taken)
 
 first-bad-requires : tie.Need-first-bad-requires
 first-bad-requires c κs = search needs
@@ -37,11 +38,13 @@ first-bad-requires c κs = search needs
 entry-refusal-requires : tie.Need-entry-refusal-requires
 entry-refusal-requires c κs = search needs
 
-cast-first : tie.Need-cast-first
-cast-first c =
-    let a = c .before .before .before .before .before .before .before .before .before .before .before .before .before .args in
-    let b = inBounds-true small (length (a .tasks .now)) (length (a .promises .now)) (length (a .report .now)) (c .before .before .before .before .before .before .before .before .before .before .before .before .before .pre) in
-    omega (arith, b .promises, c .before .before .before .first-bad .ensures, firstBad-place (small .base) (a .promises .now) (a .t) (a .list .now) (length (a .list .now)))
+cast-place : tie.Need-cast-place
+cast-place c =
+    let looked = c .before .before .before in
+    let start = looked .before .before .before .before .before .before .before .before .before .before in
+    let a = start .args in
+    let b = inBounds-true small (length (a .tasks .now)) (length (a .promises .now)) (length (a .report .now)) (start .pre) in
+    omega (arith, b .promises, looked .first-bad .ensures, firstBad-place (small .base) (a .promises .now) (a .t) (a .list .now) (length (a .list .now)))
 
 same-length-3 : tie.Need-same-length-3
 same-length-3 c = search needs
@@ -52,18 +55,25 @@ same-length-4 c = search needs
 returns-2 : tie.Need-returns-2
 unfolding started
 returns-2 c =
-    let a = c .before .before .before .before .before .before .before .before .before .before .before .before .before .args in
-    gives-passed (tables (a .tasks .now) (a .promises .now)) (c .before .before .before .before .before .before .refusal .ensures) (c .before .before .before .before .before .if1 .left)
-    (rw (← c .before .before .before .first-bad .ensures, lt-ltb _ _ (c .before .before .if2 .taken), ← c .entry-refusal .ensures) (record { answer = refl; tasks = refl; promises = refl; report = sym (over-none _) }))
+    let bad = c .before .before in
+    let looked = bad .before in
+    let passed = looked .before .before in
+    let asked = passed .before in
+    let start = asked .before .before .before .before .before .before .before in
+    gives-passed (tables (start .args .tasks .now) (start .args .promises .now)) (asked .refusal .ensures) (passed .if1 .left)
+    (rw (← looked .first-bad .ensures, lt-ltb _ _ (bad .if2 .taken), ← c .entry-refusal .ensures) (record { answer = refl; tasks = refl; promises = refl; report = sym (over-none _) }))
 
 put-requires : tie.Need-put-requires
 put-requires c κs = search needs
 
 owned-by-requires : tie.Need-owned-by-requires
 owned-by-requires c κs =
-    let a = c .before .before .before .before .before .before .before .before .before .before .before .before .before .before .before .args in
-    let b = inBounds-true small (length (a .tasks .now)) (length (a .promises .now)) (length (a .report .now)) (c .before .before .before .before .before .before .before .before .before .before .before .before .before .before .before .pre) in
-    let f = actorRows-none (a .tasks .now) (a .t) (childRows (a .tasks .now) (a .c)) (sym (c .before .before .before .before .before .before .before .before .refusal .ensures) ∙ c .before .before .before .before .before .before .before .if1 .left) in
+    let passed = c .before .before .before .before .before .before .before in
+    let asked = passed .before in
+    let start = asked .before .before .before .before .before .before .before in
+    let a = start .args in
+    let b = inBounds-true small (length (a .tasks .now)) (length (a .promises .now)) (length (a .report .now)) (start .pre) in
+    let f = actorRows-none (a .tasks .now) (a .t) (childRows (a .tasks .now) (a .c)) (sym (asked .refusal .ensures) ∙ passed .if1 .left) in
     omega (arith, b .tasks, childRows-none (a .tasks .now) (a .c) (f .1) .0)
 
 give-requires : tie.Need-give-requires
@@ -78,10 +88,17 @@ same-length-6 c = search needs
 returns-3 : tie.Need-returns-3
 unfolding started
 returns-3 c =
-    let a = c .before .before .before .before .before .before .before .before .before .before .before .before .before .before .before .before .before .before .before .before .args in
-    gives-passed (tables (a .tasks .now) (a .promises .now)) (c .before .before .before .before .before .before .before .before .before .before .before .before .before .refusal .ensures) (c .before .before .before .before .before .before .before .before .before .before .before .before .if1 .left)
-    (rw (← c .before .before .before .before .before .before .before .before .before .before .first-bad .ensures, le-ltb _ _ (c .before .before .before .before .before .before .before .before .before .if2 .left), ← c .before .before .before .before .owned-by .ensures)
-    (record { answer = refl; tasks = c .before .before .before .before .before .before .before .put .ensures; promises = c .before .before .give .ensures; report = sym (over-none _) }))
+    let gave = c .before .before in
+    let word = gave .before .before in
+    let stored = word .before .before .before in
+    let good = stored .before .before in
+    let looked = good .before in
+    let passed = looked .before .before in
+    let asked = passed .before in
+    let start = asked .before .before .before .before .before .before .before in
+    gives-passed (tables (start .args .tasks .now) (start .args .promises .now)) (asked .refusal .ensures) (passed .if1 .left)
+    (rw (← looked .first-bad .ensures, le-ltb _ _ (good .if2 .left), ← word .owned-by .ensures)
+    (record { answer = refl; tasks = stored .put .ensures; promises = gave .give .ensures; report = sym (over-none _) }))
 
 pub raw-async-spec : {M : Type 1} → statement M
 raw-async-spec =
@@ -93,7 +110,7 @@ raw-async-spec =
     returns
     first-bad-requires
     entry-refusal-requires
-    cast-first
+    cast-place
     same-length-3
     same-length-4
     returns-2

@@ -1,3 +1,4 @@
+-- `walks::follow` meets its contract. The loop keeps: the walk from here, with the fuel that is left, finds what the whole walk finds. Assumes nothing.
 use Prim.Native.Nat.{suc, _+_}
 use mathlib.Core.Path.{_≡_, refl, sym, ap, _∙_}
 use native.Mathlib.Omega.{arith}

@@ -1,3 +1,4 @@
+-- `walks::write_pairs` meets its contract. The loop keeps: storing the pairs that are left makes the report that storing all of them makes. Assumes nothing.
 use Prim.Native.Nat.{_+_, _*_, _≤_}
 use mathlib.Core.Path.{_≡_, refl, sym, ap, _∙_}
 use native.Mathlib.Omega.{arith}

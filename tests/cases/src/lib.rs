@@ -1,0 +1,19 @@
+//! Cases for the registry: made at random and in sweeps, compared and shrunk.
+
+pub mod bad_lines;
+pub mod case;
+pub mod damage;
+pub mod families;
+pub mod model_subject;
+pub mod options;
+pub mod progress;
+pub mod random;
+pub mod shrink_bytes;
+pub mod shrink_case;
+pub mod sound;
+pub mod step_choice;
+pub mod sweeps;
+pub mod tally;
+pub mod trace_sweeps;
+pub mod trace_writer;
+pub mod traces;

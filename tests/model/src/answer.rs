@@ -1,0 +1,64 @@
+//! Steps and their answers, with the number and values of each.
+
+#[derive(Clone, PartialEq, Eq, Debug)]
+pub enum Step {
+    New { t: u16, p: u16 },
+    Set { t: u16, p: u16 },
+    Get { t: u16, p: u16 },
+    Async { t: u16, c: u16, list: Vec<u16> },
+    End { t: u16 },
+}
+
+#[derive(Clone, Copy, PartialEq, Eq, Debug)]
+pub enum Answer {
+    /// Refused with the paper's number.
+    Refused(u16),
+    /// Refused for the list entry at this place, counted from 0.
+    RefusedAt(u16, usize),
+    Made,
+    /// How many tasks became ready.
+    Set(usize),
+    Value,
+    /// The task the promise is blamed on.
+    Blamed(usize),
+    /// The owners reached.
+    Waits(usize),
+    /// The owners reached, the getting task included.
+    Cycle(usize),
+    Started,
+    /// How many promises were omitted and how many tasks became ready.
+    Ended(usize, usize),
+}
+
+impl Answer {
+    /// The answer as four words: its number, then up to three values, unused ones 0.
+    pub fn words(self) -> [u16; 4] {
+        match self {
+            Answer::Refused(number) => [number, 0, 0, 0],
+            Answer::RefusedAt(number, place) => [number, place as u16, 0, 0],
+            Answer::Made => [101, 0, 0, 0],
+            Answer::Set(woken) => [102, woken as u16, 0, 0],
+            Answer::Value => [103, 0, 0, 0],
+            Answer::Blamed(task) => [104, task as u16, 0, 0],
+            Answer::Waits(owners) => [105, owners as u16, 0, 0],
+            Answer::Cycle(owners) => [106, owners as u16, 0, 0],
+            Answer::Started => [107, 0, 0, 0],
+            Answer::Ended(omitted, woken) => [108, omitted as u16, woken as u16, 0],
+        }
+    }
+
+    /// The word by which a line names the answer of this number.
+    pub fn name(number: u16) -> &'static str {
+        match number {
+            101 => "made",
+            102 => "set",
+            103 => "value",
+            104 => "blamed",
+            105 => "waits",
+            106 => "cycle",
+            107 => "started",
+            108 => "ended",
+            _ => "refused",
+        }
+    }
+}
