@@ -1,0 +1,64 @@
+-- Laws of specs/Judging.antt that the code cites: one for each way out of judging a line, and that the column of a bad list lies
+-- within the line.
+-- Assumes nothing.
+use Prim.Native.Nat.{ℕ, _+_, _-_, _≤_, _<_}
+use mathlib.Core.List.{List, []}
+use mathlib.Core.Path.{_≡_, refl, sym, _∙_}
+use native.Mathlib.Omega.{arith}
+use borrow.Author.Tests.{lt-ltb, le-ltb}
+use lib.ListN.{length, drop, length-drop}
+use Rattle.buffers.specs.Buffers.{over, fitting}
+use Rattle.buffers.proofs.BufferLaws.{over-none, fitting-none}
+use Rattle.records.specs.Records.{recordOf}
+use Rattle.records.specs.declared.Record.{Record}
+use Rattle.lists.specs.Lists.{listOf}
+use Rattle.lists.specs.declared.Listed.the-variants as E
+use Rattle.lists.proofs.ListLaws.{listOf-bad-within}
+use Rattle.forms.specs.declared.Form.{Form}
+use Rattle.forms.specs.declared.Form.the-variants as F
+use Rattle.forms.specs.Forms.{longestLine}
+use Rattle.forms.specs.Judging.{withList, ofRecord, formOf, entriesIn, entriesOf, Judged}
+
+module _ (s : List ℕ) where
+  pub formOf-long : longestLine < length s → formOf s ≡ F.Bad longestLine
+  unfolding formOf
+  formOf-long h = rw (lt-ltb longestLine (length s) h)
+
+  pub entriesOf-long : longestLine < length s → entriesOf s ≡ []
+  unfolding entriesOf
+  entriesOf-long h = rw (lt-ltb longestLine (length s) h)
+
+  module _ (h : length s ≤ longestLine) where
+    pub formOf-within : formOf s ≡ ofRecord s (recordOf s)
+    unfolding formOf
+    formOf-within = rw (le-ltb longestLine (length s) h)
+
+    pub entriesOf-within : entriesOf s ≡ entriesIn s (recordOf s)
+    unfolding entriesOf
+    entriesOf-within = rw (le-ltb longestLine (length s) h)
+
+  -- ---- the ways out
+
+  pub judged-long : (o : List ℕ) → longestLine < length s → Judged s o o (F.Bad longestLine)
+  judged-long o h = record { form = sym (formOf-long h); words = sym (rw (entriesOf-long h, fitting-none) (over-none o)) }
+
+  module _ (o : List ℕ) (r : Record) (h : length s ≤ longestLine) (q : recordOf s ≡ r) where
+    pub judged-list : {x : List ℕ} {f : Form} → f ≡ ofRecord s r → x ≡ over (fitting (entriesIn s r) o) o → Judged s o x f
+    judged-list e p = record { form = e ∙ sym (rw (formOf-within h, q)); words = p ∙ sym (rw (entriesOf-within h, q)) }
+
+    -- a record without a list
+    pub judged-plain : entriesIn s r ≡ [] → Judged s o o (ofRecord s r)
+    judged-plain e = judged-list refl (sym (rw (e, fitting-none) (over-none o)))
+
+-- ---- the list
+
+pub withList-all : (t c e n : ℕ) (s : List ℕ) → listOf (drop e s) ≡ E.All n → F.Async t c n ≡ withList t c e (listOf (drop e s))
+unfolding withList
+withList-all t c e n s q = rw q
+
+pub withList-bad : (t c e j : ℕ) (s : List ℕ) → listOf (drop e s) ≡ E.Bad j → F.Bad (e + j) ≡ withList t c e (listOf (drop e s))
+unfolding withList
+withList-bad t c e j s q = rw q
+
+pub list-within : (s : List ℕ) (e j : ℕ) → listOf (drop e s) ≡ E.Bad j → j ≤ length s - e
+list-within s e j q = omega (arith, listOf-bad-within (drop e s) j q, length-drop e s)

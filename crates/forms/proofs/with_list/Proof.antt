@@ -1,0 +1,47 @@
+-- `forms::with_list` meets its contract: the list behind the child is read, and its answer is that of `withList`.
+-- Assumes nothing.
+use mathlib.Core.Path.{sym, _∙_}
+use Rattle.forms.proofs.JudgingLaws.{withList-all, withList-bad, list-within}
+use borrow.Author.Needs.{needs}
+use Rattle.forms.proofs.with_list.Statement.{statement}
+use Rattle.forms.proofs.with_list.Tie as tie
+
+list-after-requires : tie.Need-list-after-requires
+list-after-requires c κs = search needs
+
+enum-known-n : tie.Need-enum-known-n
+enum-known-n c = search needs
+
+enum-known-j : tie.Need-enum-known-j
+enum-known-j c = search needs
+
+add-t12 : tie.Need-add-t12
+add-t12 c =
+    let a = c .before .before .before .before .before .before .before .before .before .args in
+    let h = list-within (a .line .now) (a .at) _ (sym (c .before .before .before .before .before .list-after .ensures .answer) ∙ c .before .j .given .1) in
+    search needs
+
+same-length : tie.Need-same-length
+same-length c = search needs
+
+returns : tie.Need-returns
+returns c = (withList-all _ _ _ _ _ (sym (c .before .before .before .before .before .list-after .ensures .answer) ∙ c .before .n .given .1), c .before .before .before .before .before .list-after .ensures .words)
+
+same-length-2 : tie.Need-same-length-2
+same-length-2 c = search needs
+
+returns-2 : tie.Need-returns-2
+returns-2 c = (withList-bad _ _ _ _ _ (sym (c .before .before .before .before .before .list-after .ensures .answer) ∙ c .before .j .given .1), c .before .before .before .before .before .list-after .ensures .words)
+
+pub with-list-spec : {M : Type 1} → statement M
+with-list-spec =
+    tie.close
+    (tie.spec
+    list-after-requires
+    enum-known-n
+    enum-known-j
+    add-t12
+    same-length
+    returns
+    same-length-2
+    returns-2)

@@ -1,0 +1,58 @@
+-- The forms of a line, in the direction of printing: a line is made of a word and numbers, and nothing is said of how it is read.
+-- Paper: 01, "Lines", "`open T P`, `new t p`, `set t p`, `get t p`, `async t c p..`, `end t`, with a tab for each blank"; the
+-- column is that of 02, request 1.
+--
+--   longestLine        the length limit
+--   takes w n          whether the word w takes n numbers
+--   AllSmall ns        each number of ns is at most 65535
+--   Line w ns s        s is the line of the word w and the numbers ns
+--   Formed s           s is a well-formed line, its length limit aside
+--   BadAt L s c        c is the column where s goes bad, for any language L of lines
+-- Assumes nothing.
+use Prim.Native.Nat.{ℕ, suc, _≤_, _<_}
+use mathlib.Core.List.{List, _++_}
+use mathlib.Core.Bool.{Bool, true, false}
+use mathlib.Core.Path.{_≡_}
+use lib.ListN.{length, take}
+use lib.Dec.{eqb, leb}
+use Rattle.numbers.specs.Numbers.{largest}
+use Rattle.writers.specs.Texts.{fieldsText, Every}
+use Rattle.keywords.specs.Keywords.{textOf}
+use Rattle.keywords.specs.declared.Keyword.{Keyword}
+use Rattle.keywords.specs.declared.Keyword.the-variants as W
+
+-- "or is longer than 2,048 bytes"
+abbrev pub longestLine : ℕ
+longestLine = 2048
+
+-- A NEW FORM is one line here, and its word in `keywords`. "p.." may stand for no number at all.
+unfoldable pub takes : Keyword → ℕ → Bool
+takes W.Open n = eqb n 2
+takes W.New n = eqb n 2
+takes W.Set n = eqb n 2
+takes W.Get n = eqb n 2
+takes W.Async n = leb 2 n
+takes W.End n = eqb n 1
+takes (W.Other k) n = false
+
+-- "A number .. is at most 65535"
+abbrev pub AllSmall : List ℕ → Type 0
+AllSmall ns = Every (λ n. n ≤ largest) ns
+
+-- "with a tab for each blank": `fieldsText ns` is each number of ns after a tab and in its printed form
+pub record Line (w : Keyword) (ns s : List ℕ) : Type 0 where
+  pub taken : takes w (length ns) ≡ true
+  pub small : AllSmall ns
+  pub text : s ≡ textOf w ++ fieldsText ns
+
+-- "the line has no such form": it is the line of no word and numbers
+abbrev pub Formed : List ℕ → Type 0
+Formed s = (w : Keyword) × (ns : List ℕ) × Line w ns s
+
+-- "the column, counted from 0, of the first byte with which the line so far stops being the start of any well-formed line ..
+-- or the line's length if only the end came too early"
+pub record BadAt (L : List ℕ → Type 0) (s : List ℕ) (c : ℕ) : Type 0 where
+  pub within : c ≤ length s
+  pub start : (x : List ℕ) × L (take c s ++ x)
+  pub stop : c < length s → (x : List ℕ) → L (take (suc c) s ++ x) → ⊥
+  pub not-one : L s → ⊥

@@ -1,0 +1,54 @@
+// Whether a line has one of the forms, which, and the column where it goes bad if it has none.
+ghost use mathlib.Core.Path.{_≡_};
+ghost use lib.ListN.{drop};
+ghost use Rattle.buffers.specs.Buffers.{over, fitting};
+ghost use Rattle.lists.specs.Lists.{listOf, valuesOf};
+ghost use Rattle.forms.specs.Judging.{Judged, withList};
+use lists::Listed;
+use records::Record;
+
+// The form of a line. `Async` holds the acting task, the child, and how many entries its list has: they stand in the lent words.
+// `Bad` holds the column.
+pub enum Form {
+    Open(u16, u16),
+    New(u16, u16),
+    Set(u16, u16),
+    Get(u16, u16),
+    Async(u16, u16, usize),
+    End(u16),
+    Bad(usize),
+}
+
+impl Form {
+    // The longest line, in bytes and without its LF; also the column of a longer one.
+    pub const LONGEST: usize = 2048;
+}
+
+// An async whose list starts at `at`.
+fn with_list(line: &[u8], t: u16, c: u16, at: usize, list: &mut [u16]) -> Form
+    ensures { λ r. ⌜ r ≡ withList t c at (listOf (drop at (now (line .entry)))) ⌝ }
+    ensures { λ r. ⌜ now (list .exit) ≡ over (fitting (valuesOf (drop at (now (line .entry)))) (now (list .entry))) (now (list .entry)) ⌝ }
+{
+    match lists::list_after(line, at, list) {
+        Listed::All(n) => Form::Async(t, c, n),
+        Listed::Bad(j) => Form::Bad(at + j),
+    }
+}
+
+// The form of the line; the entries of an async's list are written into the lent words, of which 1,024 are enough for any line.
+pub fn judge(line: &[u8], list: &mut [u16]) -> Form
+    ensures { λ r. ⌜ Judged (now (line .entry)) (now (list .entry)) (now (list .exit)) r ⌝ }
+{
+    if Form::LONGEST < line.len() {
+        return Form::Bad(Form::LONGEST);
+    }
+    match records::record_of(line) {
+        Record::Open(a, b) => Form::Open(a, b),
+        Record::New(t, p) => Form::New(t, p),
+        Record::Set(t, p) => Form::Set(t, p),
+        Record::Get(t, p) => Form::Get(t, p),
+        Record::Async(t, c, at) => with_list(line, t, c, at, list),
+        Record::End(t) => Form::End(t),
+        Record::Bad(c) => Form::Bad(c),
+    }
+}

@@ -1,0 +1,3 @@
+pub mod KeywordLaws
+pub mod LookupLaws
+pub mod Theorems

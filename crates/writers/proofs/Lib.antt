@@ -1,0 +1,2 @@
+pub mod WriterLaws
+pub mod Theorems
