@@ -1,0 +1,4 @@
+pub mod AnswerLaws
+pub mod ShownLaws
+pub mod Fits
+pub mod Theorems

@@ -74,6 +74,13 @@ pub fitting-append : (s t o : List ℕ) → fitting (s ++ t) o ≡ fitting s o +
 unfolding fitting
 fitting-append s t o = rw (length-drop, take-append)
 
+-- and none, if the first one took it all
+pub fitting-past : (s t o : List ℕ) → length o ≤ length s → fitting (s ++ t) o ≡ fitting s o
+fitting-past s t o h =
+    let m = full s o h in
+    let d : drop (length (fitting s o)) o ≡ [] = drop-of-length-le o {i = length (fitting s o)} (omega arith) in
+    rw (fitting-append, d, fitting-full t [] refl, append-nil)
+
 -- a word after a text, where there is room for it and where there is none
 pub over-fitting-snoc : (t o : List ℕ) (v : ℕ) → set (over (fitting t o) o) (length t) v ≡ over (fitting (t ++ (v ∷ [])) o) o
 over-fitting-snoc t o v = go (decLt (length t) (length o))
@@ -84,11 +91,9 @@ over-fitting-snoc t o v = go (decLt (length t) (length o))
         let g = fitting-room (t ++ (v ∷ [])) o (rw length-append (omega arith)) in
         rw (f, g) (over-snoc t o v h)
     go (no h) =
-        let m : length (fitting t o) ≡ length o = full t o (omega arith) in
-        let d : drop (length (fitting t o)) o ≡ [] = drop-of-length-le o {i = length (fitting t o)} (omega arith) in
-        let f : fitting (t ++ (v ∷ [])) o ≡ fitting t o = rw (fitting-append, d, fitting-full (v ∷ []) [] refl, append-nil) in
+        let k : length o ≤ length t = omega arith in
         let l : length (over (fitting t o) o) ≤ length t = omega (arith, over-length (fitting t o) o (fitting-most t o)) in
-        rw f (set-out (over (fitting t o) o) (length t) v l)
+        rw (fitting-past t (v ∷ []) o k) (set-out (over (fitting t o) o) (length t) v l)
 
 -- ---- the front of a buffer
 

@@ -61,31 +61,31 @@ unfolding runTo
 run-tab x = refl
 
 -- a field has no tab, and after it stands a tab or the end
-pub run-field : (r : List ℕ) → run (firstField r) ≡ length (firstField r)
+pub run-firstField : (r : List ℕ) → run (firstField r) ≡ length (firstField r)
 unfolding runTo
-run-field [] = refl
-run-field (b ∷ r) = go (eqb b tab) refl (run-field r)
+run-firstField [] = refl
+run-firstField (b ∷ r) = go (eqb b tab) refl (run-firstField r)
   where
     go : (z : Bool) → eqb b tab ≡ z → run (firstField r) ≡ length (firstField r) → run (firstField (b ∷ r)) ≡ length (firstField (b ∷ r))
     go true p ih = rw p
     go false p ih = rw (p, p) (ap suc ih)
 
-pub run-after : (r : List ℕ) → run (drop (run r) r) ≡ 0
+pub run-afterField : (r : List ℕ) → run (drop (run r) r) ≡ 0
 unfolding runTo
-run-after [] = refl
-run-after (b ∷ r) = go (eqb b tab) refl (run-after r)
+run-afterField [] = refl
+run-afterField (b ∷ r) = go (eqb b tab) refl (run-afterField r)
   where
     go : (z : Bool) → eqb b tab ≡ z → run (drop (run r) r) ≡ 0 → run (drop (run (b ∷ r)) (b ∷ r)) ≡ 0
     go true p ih = rw (p, p)
     go false p ih = rw p ih
 
-pub field-front : (f x : List ℕ) → run f ≡ length f → run x ≡ 0 → firstField (f ++ x) ≡ f
-field-front f x h z =
+pub firstField-front : (f x : List ℕ) → run f ≡ length f → run x ≡ 0 → firstField (f ++ x) ≡ f
+firstField-front f x h z =
     let e : run (f ++ x) ≡ length f = omega (arith, run-append f x h) in
     ap (λ (n : ℕ). take n (f ++ x)) e ∙ take-append-seam f x
 
-pub field-rest : (f x : List ℕ) → run f ≡ length f → run x ≡ 0 → drop (run (f ++ x)) (f ++ x) ≡ x
-field-rest f x h z =
+pub firstField-rest : (f x : List ℕ) → run f ≡ length f → run x ≡ 0 → drop (run (f ++ x)) (f ++ x) ≡ x
+firstField-rest f x h z =
     let e : run (f ++ x) ≡ length f = omega (arith, run-append f x h) in
     ap (λ (n : ℕ). drop n (f ++ x)) e ∙ drop-append-seam f x
 

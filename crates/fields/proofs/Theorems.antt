@@ -10,7 +10,7 @@ use native.Mathlib.Decide.{decLt}
 use lib.ListN.{length, take, drop, length-drop, take-append-drop, drop-of-length-le}
 use lib.Seq.{drop-drop, drop-at, take-append-seam, length-take-le}
 use Rattle.fields.specs.Fields.{tab, runTo, endFrom, run, fieldEnd, fieldAt, nextStart, Field}
-use Rattle.fields.proofs.FieldLaws.{run-append, run-field, run-after, run-none, fieldAt-length, fieldEnd-within, nextStart-is, nextStart-past}
+use Rattle.fields.proofs.FieldLaws.{run-append, run-firstField, run-afterField, run-none, fieldAt-length, fieldEnd-within, nextStart-is, nextStart-past}
 
 -- THE FIELD'S PLACE: from `at` up to its end, no tab within, a tab or the line's end after it
 pub field-placed : (s : List ℕ) (at : ℕ) → Field s at (fieldAt s at) (fieldEnd s at)
@@ -18,12 +18,12 @@ unfolding fieldAt fieldEnd endFrom
 field-placed s at = record {
   place = sym (fieldAt-length s at);
   whole = sym (take-append-drop at s) ∙ ap (λ (r : List ℕ). take at s ++ r) (sym (take-append-drop (run (drop at s)) (drop at s)) ∙ ap (λ (r : List ℕ). take (run (drop at s)) (drop at s) ++ r) (drop-drop (run (drop at s)) at s));
-  no-tab = run-field (drop at s);
+  no-tab = run-firstField (drop at s);
   after = ends (decLt (fieldEnd s at) (length s));
 }
   where
     z : run (drop (at + run (drop at s)) s) ≡ 0
-    z = ap run (sym (drop-drop (run (drop at s)) at s)) ∙ run-after (drop at s)
+    z = ap run (sym (drop-drop (run (drop at s)) at s)) ∙ run-afterField (drop at s)
 
     ends : Dec (fieldEnd s at < length s) → (drop (fieldEnd s at) s ≡ []) ⊎ (drop (fieldEnd s at) s ≡ tab ∷ drop (fieldEnd s at + 1) s)
     ends (no h) = inl (drop-of-length-le s {i = fieldEnd s at} (omega arith))

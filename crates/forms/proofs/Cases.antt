@@ -6,7 +6,7 @@ use mathlib.Core.List.{List, [], _∷_}
 use mathlib.Core.Bool.{Bool, true, false, cond}
 use mathlib.Core.Path.{_≡_, refl}
 use lib.Dec.{eqb}
-use Rattle.fields.specs.Fields.{run, fieldEnd, fieldAt, runTo, endFrom}
+use Rattle.fields.specs.Fields.{fieldEnd, fieldAt, runTo, endFrom}
 use Rattle.numbers.specs.Numbers.{digitOf, digitsFrom, afterZero, numberOf}
 use Rattle.keywords.specs.Keywords.{same, common, larger, textOf, keywords, longest, lookup, keywordOf}
 use Rattle.records.specs.Records.{placed, numberAt, withSecond, withFirst, pairAt, lastPair, ofPair, ofAsync, ofEnd, afterWord, recordOf}

@@ -11,7 +11,7 @@ use lib.Dec.{eqb}
 use lib.ListN.{length, take, drop, take-append-drop}
 use lib.Seq.{take-take, length-take-le}
 use Rattle.fields.specs.Fields.{tab, run, fieldEnd, fieldAt, runTo, endFrom}
-use Rattle.fields.proofs.FieldLaws.{firstField, run-most, run-after, field-front, field-rest}
+use Rattle.fields.proofs.FieldLaws.{firstField, run-most, run-afterField, firstField-front, firstField-rest}
 use Rattle.keywords.specs.Keywords.{On, here, later, StopsAt, textOf, keywords, keywordOf}
 use Rattle.keywords.specs.declared.Keyword.{Keyword}
 use Rattle.keywords.specs.declared.Keyword.the-variants as W
@@ -91,7 +91,7 @@ beyond k (b ∷ s) x t h e = go (eqb b tab) refl k h e (λ j g. beyond j s x (fi
 
 -- a line's first field is its word
 pub first-field : (s : List ℕ) (w : Keyword) (rest : List ℕ) → s ≡ textOf w ++ rest → run rest ≡ 0 → firstField s ≡ textOf w
-first-field s w rest e z = ap firstField e ∙ field-front (textOf w) rest (text-whole w) z
+first-field s w rest e z = ap firstField e ∙ firstField-front (textOf w) rest (text-whole w) z
 
 parsed-field : (s : List ℕ) (f : Parsed s) → firstField s ≡ textOf (f .word)
 parsed-field s f = first-field s (f .word) (f .rest) (f .text) (numbers-tabbed (f .count) (f .rest) (f .numbers))
@@ -100,7 +100,7 @@ pub word-well : (s : List ℕ) (w : Keyword) (n : ℕ) → takes w n ≡ true �
 unfolding fieldEnd endFrom fieldAt
 word-well s w n t e = record {
   within = omega (arith, run-most s);
-  tabbed = ap (λ (i : ℕ). run (drop i s)) zero-plus ∙ run-after s;
+  tabbed = ap (λ (i : ℕ). run (drop i s)) zero-plus ∙ run-afterField s;
   to = λ k x o m. record { word = w; count = k; taken = o; rest = x; text = ap (λ (i : ℕ). take i s ++ x) zero-plus ∙ ap (λ (f : List ℕ). f ++ x) is; numbers = m };
   from = λ x z f. back x z f;
 }
@@ -115,8 +115,8 @@ word-well s w n t e = record {
     back x z f =
         let tabs = numbers-tabbed (f .count) (f .rest) (f .numbers) in
         let g : textOf w ++ x ≡ textOf (f .word) ++ f .rest = ap (λ (y : List ℕ). y ++ x) (sym is) ∙ ap (λ (i : ℕ). take i s ++ x) (sym zero-plus) ∙ f .text in
-        let h : textOf w ≡ textOf (f .word) = sym (field-front (textOf w) x (text-whole w) z) ∙ first-field (textOf w ++ x) (f .word) (f .rest) g tabs in
-        let r : x ≡ f .rest = sym (field-rest (textOf w) x (text-whole w) z) ∙ ap (λ (y : List ℕ). drop (run y) y) g ∙ field-rest (textOf (f .word)) (f .rest) (text-whole (f .word)) tabs in
+        let h : textOf w ≡ textOf (f .word) = sym (firstField-front (textOf w) x (text-whole w) z) ∙ first-field (textOf w ++ x) (f .word) (f .rest) g tabs in
+        let r : x ≡ f .rest = sym (firstField-rest (textOf w) x (text-whole w) z) ∙ ap (λ (y : List ℕ). drop (run y) y) g ∙ firstField-rest (textOf (f .word)) (f .rest) (text-whole (f .word)) tabs in
         let v : f .word ≡ w = sym (keywordOf-text (f .word) (in-table (f .word) (f .count) (f .taken))) ∙ ap keywordOf (sym h) ∙ keywordOf-text w (in-table w n t) in
         (f .count, subst (λ (u : Keyword). takes u (f .count) ≡ true) v (f .taken), subst (Numbers (f .count)) (sym r) (f .numbers))
 

@@ -9,8 +9,8 @@ use native.Mathlib.Omega.{arith}
 use lib.Dec.{eqb, leb, ltb}
 use borrow.Author.Tests.{ne-eqb, ltb-true, eqb-true}
 use lib.ListN.{length, take, drop}
-use Rattle.fields.specs.Fields.{tab, run, runTo, endFrom}
-use Rattle.fields.proofs.FieldLaws.{firstField, field-front, field-rest}
+use Rattle.fields.specs.Fields.{tab, run, runTo}
+use Rattle.fields.proofs.FieldLaws.{firstField, firstField-front, firstField-rest}
 use Rattle.numbers.specs.Numbers.{largest, digitOf, digitsFrom, afterZero, numberOf, dec}
 use Rattle.numbers.specs.declared.Num.the-variants.{Is, Bad}
 use Rattle.numbers.proofs.PrintLaws.{numberOf-print, numberOf-printed}
@@ -36,10 +36,10 @@ digitsFrom-whole (b ∷ s) v k n e = go (ltb (digitOf b) 10) refl (leb (v * 10 +
     go true p false q e ih = never (sym (rw (p, q) at e))
     go true p true q e ih = rw (ne-eqb b 9 (digit-no-tab b (ltb-true _ _ p))) (ap suc (ih (rw (p, q) at e)))
 
-pub number-whole : (s : List ℕ) (n : ℕ) → numberOf s ≡ Is n → run s ≡ length s
+pub numberOf-whole : (s : List ℕ) (n : ℕ) → numberOf s ≡ Is n → run s ≡ length s
 unfolding numberOf afterZero runTo
-number-whole [] n e = never (sym e)
-number-whole (b ∷ s) n e = go (eqb b 48) refl s e
+numberOf-whole [] n e = never (sym e)
+numberOf-whole (b ∷ s) n e = go (eqb b 48) refl s e
   where
     go : (x : Bool) → eqb b 48 ≡ x → (s : List ℕ) → numberOf (b ∷ s) ≡ Is n → run (b ∷ s) ≡ suc (length s)
     go true p [] e = rw (ne-eqb b 9 (λ (z : b ≡ 9). omega (arith, eqb-true b 48 p)))
@@ -47,13 +47,13 @@ number-whole (b ∷ s) n e = go (eqb b 48) refl s e
     go false p s e = digitsFrom-whole (b ∷ s) 0 0 n (rw p at e)
 
 pub dec-whole : (n : ℕ) → n ≤ largest → run (dec n) ≡ length (dec n)
-dec-whole n h = number-whole (dec n) n (numberOf-print n h)
+dec-whole n h = numberOf-whole (dec n) n (numberOf-print n h)
 
 -- a number, and a tab or the end: what stands there is told by the list
-pub split : (f x y : List ℕ) (m : ℕ) → run f ≡ length f → run x ≡ 0 → m ≤ largest → run y ≡ 0 → f ++ x ≡ dec m ++ y → (f ≡ dec m) × (x ≡ y)
-split f x y m h z l w e = (
-  sym (field-front f x h z) ∙ ap firstField e ∙ field-front (dec m) y (dec-whole m l) w,
-  sym (field-rest f x h z) ∙ ap (λ (r : List ℕ). drop (run r) r) e ∙ field-rest (dec m) y (dec-whole m l) w,
+pub dec-split : (f x y : List ℕ) (m : ℕ) → run f ≡ length f → run x ≡ 0 → m ≤ largest → run y ≡ 0 → f ++ x ≡ dec m ++ y → (f ≡ dec m) × (x ≡ y)
+dec-split f x y m h z l w e = (
+  sym (firstField-front f x h z) ∙ ap firstField e ∙ firstField-front (dec m) y (dec-whole m l) w,
+  sym (firstField-rest f x h z) ∙ ap (λ (r : List ℕ). drop (run r) r) e ∙ firstField-rest (dec m) y (dec-whole m l) w,
 )
 
 -- ---- where a number goes bad
@@ -112,10 +112,10 @@ digitsFrom-stable (b ∷ r) v k i x e = tab (eqb b 9) refl i e (λ i′. digitsF
     tab true t i e ih = never (rw t at e)
     tab false t i e ih = rw t (on t (ltb (digitOf b) 10) refl (leb (v * 10 + digitOf b) largest) refl i (rw t at e) ih)
 
-pub number-stable : (r : List ℕ) (j : ℕ) (x : List ℕ) → numberOf (firstField r) ≡ Bad j → j < length r → numberOf (firstField (take (suc j) r ++ x)) ≡ Bad j
+pub numberOf-stable : (r : List ℕ) (j : ℕ) (x : List ℕ) → numberOf (firstField r) ≡ Bad j → j < length r → numberOf (firstField (take (suc j) r ++ x)) ≡ Bad j
 unfolding numberOf afterZero runTo
-number-stable [] j x e h = absurd (omega arith)
-number-stable (b ∷ r) j x e h = tab (eqb b 9) refl j e
+numberOf-stable [] j x e h = absurd (omega arith)
+numberOf-stable (b ∷ r) j x e h = tab (eqb b 9) refl j e
   where
     zero-at : eqb b 48 ≡ true → (r : List ℕ) (j : ℕ) → afterZero (firstField r) ≡ Bad j → afterZero (firstField (take j r ++ x)) ≡ Bad j
     zero-at p [] j e = never e
@@ -152,11 +152,11 @@ zero-start = record { number = 0; most = omega arith; more = dec 0; text = refl 
 is-start : (f : List ℕ) (n : ℕ) → numberOf f ≡ Is n → Start f
 is-start f n e = record { number = n; most = numberOf-printed f n e .0; more = []; text = append-nil f ∙ numberOf-printed f n e .1 }
 
-pub number-start : (f : List ℕ) (j : ℕ) → numberOf f ≡ Bad j → Start (take j f)
+pub numberOf-start : (f : List ℕ) (j : ℕ) → numberOf f ≡ Bad j → Start (take j f)
 unfolding numberOf afterZero
-number-start f zero e = zero-start
-number-start [] (suc j) e = zero-start
-number-start (b ∷ f) (suc j) e = go (eqb b 48) refl f j e
+numberOf-start f zero e = zero-start
+numberOf-start [] (suc j) e = zero-start
+numberOf-start (b ∷ f) (suc j) e = go (eqb b 48) refl f j e
   where
     go : (x : Bool) → eqb b 48 ≡ x → (f : List ℕ) (j : ℕ) → numberOf (b ∷ f) ≡ Bad (suc j) → Start (b ∷ take j f)
     go true p [] j e = never (rw p at e)

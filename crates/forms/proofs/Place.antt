@@ -22,8 +22,8 @@ use Rattle.records.specs.declared.Numbered.{Numbered}
 use Rattle.records.specs.declared.Numbered.the-variants as S
 use Rattle.forms.specs.Forms.{BadAt}
 use Rattle.forms.proofs.Parsed.{Numbers}
-use Rattle.fields.proofs.FieldLaws.{firstField, run-most, run-tab, run-after, run-none, field-front}
-use Rattle.forms.proofs.NumberFields.{dec-whole, split, number-stable, Start, number-start}
+use Rattle.fields.proofs.FieldLaws.{firstField, run-most, run-tab, run-afterField, run-none, firstField-front}
+use Rattle.forms.proofs.NumberFields.{dec-whole, dec-split, numberOf-stable, Start, numberOf-start}
 
 -- ---- numbers after tabs
 
@@ -123,7 +123,7 @@ module _ (L : List ℕ → Type 0) (s : List ℕ) (e : ℕ) (ok : ℕ → Bool) 
     pub number-well : (v : ℕ) → numberOf (firstField rest) ≡ N.Is v → At L s (e + 1 + run rest) (λ k. ok (suc k))
     number-well v n = record {
       within = omega (arith, run-most rest, length-drop (e + 1) s);
-      tabbed = ap run (sym (drop-drop (run rest) (e + 1) s)) ∙ run-after rest;
+      tabbed = ap run (sym (drop-drop (run rest) (e + 1) s)) ∙ run-afterField rest;
       to = λ k x o m. subst L (shape x) (a .to (suc k) (9 ∷ (dec v ++ x)) o (v, x, numberOf-printed (firstField rest) v n .0, refl, m));
       from = λ x z l. go x z (numbered (dec v ++ x) (subst L (sym (shape x)) l));
     }
@@ -136,17 +136,17 @@ module _ (L : List ℕ → Type 0) (s : List ℕ) (e : ℕ) (ok : ℕ → Bool) 
         go : (x : List ℕ) → run x ≡ 0 → (k : ℕ) × (ok (suc k) ≡ true) × (m : ℕ) × (y : List ℕ) × (m ≤ largest) × (dec v ++ x ≡ dec m ++ y) × Numbers k y
             → (k : ℕ) × (ok (suc k) ≡ true) × Numbers k x
         go x z (k, o, m, y, b, q, t) =
-            let w = split (dec v) x y m (dec-whole v (numberOf-printed (firstField rest) v n .0)) z b (numbers-tabbed k y t) q in
+            let w = dec-split (dec v) x y m (dec-whole v (numberOf-printed (firstField rest) v n .0)) z b (numbers-tabbed k y t) q in
             (k, o, subst (Numbers k) (sym (w .1)) t)
 
     -- a number that goes bad
     pub number-bad : (k : ℕ) → ok (suc k) ≡ true → (j : ℕ) → numberOf (firstField rest) ≡ N.Bad j → j ≤ run rest → BadAt L s (e + 1 + j)
     number-bad k o j n w = record {
       within = omega (arith, run-most rest, length-drop (e + 1) s);
-      start = begin (number-start (firstField rest) j n);
+      start = begin (numberOf-start (firstField rest) j n);
       stop = λ b x l.
           let p : suc (e + 1 + j) ≡ e + 1 + suc j = omega arith in
-          no (take (suc j) rest ++ x) (number-stable rest j x n (omega (arith, length-drop (e + 1) s)))
+          no (take (suc j) rest ++ x) (numberOf-stable rest j x n (omega (arith, length-drop (e + 1) s)))
           (subst L (ap (λ (i : ℕ). take i s ++ x) p ∙ ap (λ (r : List ℕ). r ++ x) (front (suc j)) ∙ append-assoc (take e s) (9 ∷ take (suc j) rest) x) l);
       not-one = λ l. no rest n (subst L whole l);
     }
@@ -167,7 +167,7 @@ module _ (L : List ℕ → Type 0) (s : List ℕ) (e : ℕ) (ok : ℕ → Bool) 
         no : (r : List ℕ) → numberOf (firstField r) ≡ N.Bad j → L (take e s ++ 9 ∷ r) → ⊥
         no r n l =
             let (k, o, m, y, b, q, t) = numbered r l in
-            let f : firstField r ≡ dec m = ap firstField q ∙ field-front (dec m) y (dec-whole m b) (numbers-tabbed k y t) in
+            let f : firstField r ≡ dec m = ap firstField q ∙ firstField-front (dec m) y (dec-whole m b) (numbers-tabbed k y t) in
             let c : N.Is m ≡ N.Bad j = sym (numberOf-print m b) ∙ ap numberOf (sym f) ∙ n in
             let z : _≡_ {A = ℕ} 0 1 = cc in
             omega arith
@@ -184,7 +184,7 @@ length-field r = length-take-le (run r) r (run-most r)
 
 module _ (L : List ℕ → Type 0) (s : List ℕ) (e : ℕ) (ok : ℕ → Bool) (a : At L s e ok) where
   pub next-well : (v n : ℕ) → numberAt s e ≡ S.Is v n → At L s n (λ k. ok (suc k))
-  unfolding placed fieldEnd fieldAt
+  unfolding placed fieldEnd endFrom fieldAt
   next-well v n q = go (number-told s e (S.Is v n) q (decLt e (length s)))
     where
       at : e < length s → (m : Num) → numberOf (firstField (drop (e + 1) s)) ≡ m → S.Is v n ≡ placed (e + 1) (e + 1 + run (drop (e + 1) s)) m → At L s n (λ k. ok (suc k))
@@ -198,7 +198,7 @@ module _ (L : List ℕ → Type 0) (s : List ℕ) (e : ℕ) (ok : ℕ → Bool) 
       go (inr (h, r)) = at h (numberOf (firstField (drop (e + 1) s))) refl r
 
   pub next-bad : (k : ℕ) → ok (suc k) ≡ true → (length s ≤ e → ok 0 ≡ false) → (c : ℕ) → numberAt s e ≡ S.Bad c → BadAt L s c
-  unfolding placed fieldEnd fieldAt
+  unfolding placed fieldEnd endFrom fieldAt
   next-bad k o f c q = go (number-told s e (S.Bad c) q (decLt e (length s)))
     where
       at : e < length s → (m : Num) → numberOf (firstField (drop (e + 1) s)) ≡ m → S.Bad c ≡ placed (e + 1) (e + 1 + run (drop (e + 1) s)) m → BadAt L s c

@@ -10,7 +10,7 @@ use borrow.Author.Tests.{lt-ltb, le-ltb, eqb-true, leb-true}
 use lib.ListN.{length, drop, length-drop}
 use lib.Seq.{drop-drop, take-append-seam, drop-append-seam}
 use Rattle.fields.specs.Fields.{tab, run, fieldEnd, fieldAt, runTo, endFrom}
-use Rattle.fields.proofs.FieldLaws.{firstField, run-append, field-rest}
+use Rattle.fields.proofs.FieldLaws.{firstField, run-append, firstField-rest}
 use Rattle.numbers.specs.Numbers.{largest, dec}
 use Rattle.numbers.proofs.PrintLaws.{numberOf-print}
 use Rattle.keywords.specs.Keywords.{textOf, keywordOf}
@@ -50,7 +50,7 @@ module _ (s : List ℕ) (e v : ℕ) (rest : List ℕ) (h : v ≤ largest) (z : r
   runs = ap run behind-tab ∙ run-append (dec v) rest (dec-whole v h) ∙ omega arith
 
   pub next-read : numberAt s e ≡ S.Is v (e + 1 + length (dec v))
-  unfolding numberAt fieldAt fieldEnd placed
+  unfolding numberAt fieldAt fieldEnd endFrom placed
   next-read = rw (lt-ltb e (length s) there, runs, behind-tab, take-append-seam, numberOf-print v h)
 
   pub next-rest : drop (e + 1 + length (dec v)) s ≡ rest
@@ -193,5 +193,5 @@ line-read w ns s l =
     let k : keywordOf (firstField s) ≡ w = ap keywordOf f ∙ keywordOf-text w (in-table w (length ns) (l .taken)) in
     let d : drop (0 + run s) s ≡ fieldsText ns =
     let z : 0 + run s ≡ run s = omega arith in
-    ap (λ (i : ℕ). drop i s) z ∙ ap (λ (r : List ℕ). drop (run r) r) (l .text) ∙ field-rest (textOf w) (fieldsText ns) (text-whole w) (fields-tabbed ns) in
+    ap (λ (i : ℕ). drop i s) z ∙ ap (λ (r : List ℕ). drop (run r) r) (l .text) ∙ firstField-rest (textOf w) (fieldsText ns) (text-whole w) (fields-tabbed ns) in
     rw k (by-word s (0 + run s) ns (l .small) d w (l .taken))

@@ -30,15 +30,11 @@ use Rattle.forms.specs.declared.Form.{Form}
 use Rattle.forms.specs.declared.Form.the-variants as F
 use Rattle.writers.specs.Texts.{fieldsText, no-more, one-more}
 use Rattle.forms.specs.Forms.{longestLine, takes, AllSmall, Line, Formed, BadAt}
-use Rattle.forms.specs.Judging.{wordIn, numbersIn, countIn, withList, ofRecord, formOf, entriesIn, entriesOf, Judged}
+use Rattle.forms.specs.Judging.{wordIn, numbersIn, countIn, withList, ofRecord, formOf, entriesIn, entriesOf, Good, Judged}
 use Rattle.forms.proofs.Parsed.{Parsed, formed, bad-formed}
 use Rattle.forms.proofs.Column.{isGood, Verdict, verdict-well, verdict-bad, verdict}
 use Rattle.forms.proofs.ReadBack.{line-read}
 use Rattle.forms.proofs.JudgingLaws.{formOf-long, formOf-within, entriesOf-long, entriesOf-within}
-
--- an answer that is one of the forms
-abbrev pub Good : Form → Type 0
-Good f = (c : ℕ) → f ≡ F.Bad c → ⊥
 
 other-takes : (c n : ℕ) → takes (W.Other c) n ≡ false
 unfolding takes

@@ -45,7 +45,7 @@ pub record Line (w : Keyword) (ns s : List ℕ) : Type 0 where
   pub small : AllSmall ns
   pub text : s ≡ textOf w ++ fieldsText ns
 
--- "the line has no such form": it is the line of no word and numbers
+-- a line "of such form": there are a word and numbers that it is the line of
 abbrev pub Formed : List ℕ → Type 0
 Formed s = (w : Keyword) × (ns : List ℕ) × Line w ns s
 

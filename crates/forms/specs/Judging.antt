@@ -6,6 +6,7 @@
 --   countIn f          how many entries it says its list has
 --   formOf s           the form of the line s, or `Bad` with the column where it goes bad
 --   entriesOf s        the entries of the line's list
+--   Good f             the answer f is one of the forms
 --   Judged s o x r     the line s was judged with the words o lent for its list: x is what they hold then, and r the answer
 -- Theorems.antt: the form read is the form printed, and a bad line's column is the one of `BadAt`.
 -- Assumes nothing.
@@ -90,6 +91,10 @@ entriesIn s (R.Bad c) = []
 
 unfoldable pub entriesOf : List ℕ → List ℕ
 entriesOf s = cond (ltb longestLine (length s)) [] (entriesIn s (recordOf s))
+
+-- an answer that is one of the forms
+abbrev pub Good : Form → Type 0
+Good f = (c : ℕ) → f ≡ F.Bad c → ⊥
 
 -- the whole outcome of judging a line
 pub record Judged (s o x : List ℕ) (r : Form) : Type 0 where

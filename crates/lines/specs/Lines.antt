@@ -1,10 +1,11 @@
 -- The line entry. Paper: 01, "Lines".
 --
 --   inSession session            the session value is one that a session may have
---   lentWell n session ts ps rs as   the line number, the session value and the lengths of what is lent are as they must be
+--   lentWell n session T P n′ l  the line number, the session value and the lengths of what is lent are as they must be
 --   Deed                         what a line does: its answer, the session value, both tables and the report words
---   stepOf f vs                  the step of the form f; vs are the entries of an async's list
---   deedOf f vs session ts ps    what a line of the form f does
+--   unopenedDeed f ts ps         what a line of the form f does before a session is opened
+--   openOutcome f vs n s         its outcome in an open session, on the tables s
+--   deedOf f vs session ts ps n  what it does
 --   Entry, entryOf ..            the number, the session value, both tables, the report, the answer line and its length after a line
 --   Enters ..                    a call answered and left these
 -- Assumes nothing.
@@ -16,9 +17,9 @@ use lib.Dec.{eqb, leb}
 use lib.ListN.{length, take, drop}
 use Rattle.words.specs.Words.{small, sizesInBounds}
 use Rattle.words.specs.Lists.{over}
-use Rattle.rules.specs.Tables.{tables, fresh}
+use Rattle.rules.specs.Tables.{Tables, tables, fresh}
 use Rattle.rules.specs.Sessions.{freshRefusal}
-use Rattle.rules.specs.Steps.{Step, step-new, step-set, step-get, step-async, step-end, Outcome, step}
+use Rattle.rules.specs.Steps.{step-new, step-set, step-get, step-async, step-end, Outcome, outcome, step}
 use Rattle.rules.specs.declared.Answer.{Answer}
 use Rattle.rules.specs.declared.Answer.the-variants.{Opened, Refused}
 use Rattle.forms.specs.declared.Form.{Form}
@@ -28,6 +29,7 @@ use Rattle.answers.specs.AnswerText.{answerText, longestAnswer}
 use Rattle.lines.specs.declared.Session.{Session}
 use Rattle.lines.specs.declared.Session.the-variants.{Unopened, Open}
 use Rattle.lines.specs.declared.Entered.{Entered}
+use Rattle.lines.specs.declared.Done.{Done}
 
 -- ---- what is lent
 
@@ -37,11 +39,11 @@ inSession Unopened = true
 inSession (Open T P) = sizesInBounds small T P
 
 -- "a line number (1 to 999999), a session value .., tables of exactly 64 and 256 words, a report of exactly 384 words and an answer line of at least 2,048 bytes"
-unfoldable pub lentWell : ℕ → Session → List ℕ → List ℕ → List ℕ → List ℕ → Bool
-lentWell n session ts ps rs out =
-    leb 1 n && leb n 999999 && inSession session && eqb (length ts) 64 && eqb (length ps) 256 && eqb (length rs) 384 && leb longestAnswer (length out)
+unfoldable pub lentWell : ℕ → Session → ℕ → ℕ → ℕ → ℕ → Bool
+lentWell n session tasks promises report out =
+    (leb 1 n && leb n 999999) && inSession session && (eqb tasks 64 && eqb promises 256) && (eqb report 384 && leb longestAnswer out)
 
--- ---- what a line does
+-- ---- what a line may do
 
 pub record Deed : Type 0 where
   pub answer : Answer
@@ -58,31 +60,43 @@ refusedBy r session ts ps = record { answer = Refused r; session = session; task
 abbrev pub opened : ℕ → ℕ → List ℕ → List ℕ → Deed
 opened T P ts ps = record { answer = Opened; session = Open T P; tasks = fresh T P .tasks ++ drop T ts; promises = fresh T P .promises ++ drop P ps; words = [] }
 
--- "a session uses the first T and first P words"; the report has 384
+-- "a session uses the first T and first P words"
 abbrev pub stepped : ℕ → ℕ → List ℕ → List ℕ → Outcome → Deed
 stepped T P ts ps o = record { answer = o .answer; session = Open T P; tasks = o .after .tasks ++ drop T ts; promises = o .after .promises ++ drop P ps; words = o .words }
 
-abbrev pub inOpen : ℕ → ℕ → List ℕ → List ℕ → Step → Deed
-inOpen T P ts ps x = stepped T P ts ps (step small 384 (tables (take T ts) (take P ps)) x)
+-- ---- before a session is opened
 
--- "Refusal 15: well formed but out of place, a step before open or a second open."
-unfoldable pub stepDeed : Session → List ℕ → List ℕ → Step → Deed
-stepDeed Unopened ts ps x = refusedBy 15 Unopened ts ps
-stepDeed (Open T P) ts ps x = inOpen T P ts ps x
+-- "Refusal 15: well formed but out of place, a step before open"; "a refused open (T not 1 to 64, P above 256: refusal 1) .. leaves the session unopened"
+unfoldable pub openDeed : List ℕ → List ℕ → ℕ → ℕ → Deed
+openDeed ts ps T P = cond (eqb (freshRefusal small T P) 0) (opened T P ts ps) (refusedBy (freshRefusal small T P) Unopened ts ps)
 
-unfoldable pub openDeed : Session → List ℕ → List ℕ → ℕ → ℕ → Deed
-openDeed Unopened ts ps T P = cond (eqb (freshRefusal small T P) 0) (opened T P ts ps) (refusedBy (freshRefusal small T P) Unopened ts ps)
-openDeed (Open T′ P′) ts ps T P = refusedBy 15 (Open T′ P′) ts ps
+unfoldable pub unopenedDeed : Form → List ℕ → List ℕ → Deed
+unopenedDeed (F.Open T P) ts ps = openDeed ts ps T P
+unopenedDeed (F.New t p) ts ps = refusedBy 15 Unopened ts ps
+unopenedDeed (F.Set t p) ts ps = refusedBy 15 Unopened ts ps
+unopenedDeed (F.Get t p) ts ps = refusedBy 15 Unopened ts ps
+unopenedDeed (F.Async t c n) ts ps = refusedBy 15 Unopened ts ps
+unopenedDeed (F.End t) ts ps = refusedBy 15 Unopened ts ps
+unopenedDeed (F.Bad column) ts ps = refusedBy 14 Unopened ts ps
 
--- "14 comes before 15, both before the step's own."
-unfoldable pub deedOf : Form → List ℕ → Session → List ℕ → List ℕ → Deed
-deedOf (F.Open T P) vs session ts ps = openDeed session ts ps T P
-deedOf (F.New t p) vs session ts ps = stepDeed session ts ps (step-new t p)
-deedOf (F.Set t p) vs session ts ps = stepDeed session ts ps (step-set t p)
-deedOf (F.Get t p) vs session ts ps = stepDeed session ts ps (step-get t p)
-deedOf (F.Async t c n) vs session ts ps = stepDeed session ts ps (step-async t c vs)
-deedOf (F.End t) vs session ts ps = stepDeed session ts ps (step-end t)
-deedOf (F.Bad column) vs session ts ps = refusedBy 14 session ts ps
+-- ---- in an open session
+
+-- n is the report's length, vs are the entries of an async's list. "or a second open": 15. "14 comes before 15, both before the step's own."
+unfoldable pub openOutcome : Form → List ℕ → ℕ → Tables → Outcome
+openOutcome (F.Open T P) vs n s = outcome (Refused 15) s []
+openOutcome (F.New t p) vs n s = step small n s (step-new t p)
+openOutcome (F.Set t p) vs n s = step small n s (step-set t p)
+openOutcome (F.Get t p) vs n s = step small n s (step-get t p)
+openOutcome (F.Async t c k) vs n s = step small n s (step-async t c vs)
+openOutcome (F.End t) vs n s = step small n s (step-end t)
+openOutcome (F.Bad column) vs n s = outcome (Refused 14) s []
+
+-- ---- what a line does
+
+-- n is the report's length
+unfoldable pub deedOf : Form → List ℕ → Session → List ℕ → List ℕ → ℕ → Deed
+deedOf f vs Unopened ts ps n = unopenedDeed f ts ps
+deedOf f vs (Open T P) ts ps n = stepped T P ts ps (openOutcome f vs n (tables (take T ts) (take P ps)))
 
 -- ---- the entry
 
@@ -113,7 +127,7 @@ entered n rs out d = record {
 
 unfoldable pub entryOf : List ℕ → ℕ → Session → List ℕ → List ℕ → List ℕ → List ℕ → Entry
 entryOf line n session ts ps rs out =
-    cond (lentWell n session ts ps rs out) (entered n rs out (deedOf (formOf line) (entriesOf line) session ts ps)) (notEntered session ts ps rs out)
+    cond (lentWell n session (length ts) (length ps) (length rs) (length out)) (entered n rs out (deedOf (formOf line) (entriesOf line) session ts ps (length rs))) (notEntered session ts ps rs out)
 
 pub record Enters (e : Entry) (r : Entered) (ts ps rs out : List ℕ) : Type 0 where
   pub number : r .number ≡ e .number
@@ -123,3 +137,18 @@ pub record Enters (e : Entry) (r : Entered) (ts ps rs out : List ℕ) : Type 0 w
   pub promises : ps ≡ e .promises
   pub report : rs ≡ e .report
   pub answer : out ≡ e .out
+
+-- what the parts of the entry give: an answer, a session value, both tables and the report are those of a deed; rs is the report before
+pub record Does (d : Deed) (rs : List ℕ) (r : Done) (ts ps rs′ : List ℕ) : Type 0 where
+  pub answer : r .answer ≡ d .answer
+  pub session : r .session ≡ d .session
+  pub tasks : ts ≡ d .tasks
+  pub promises : ps ≡ d .promises
+  pub report : rs′ ≡ over (d .words) rs
+
+-- an outcome on the first T and first P words of the tables ts and ps
+pub record InPart (o : Outcome) (T P : ℕ) (ts ps rs : List ℕ) (a : Answer) (ts′ ps′ rs′ : List ℕ) : Type 0 where
+  pub answer : a ≡ o .answer
+  pub tasks : ts′ ≡ o .after .tasks ++ drop T ts
+  pub promises : ps′ ≡ o .after .promises ++ drop P ps
+  pub report : rs′ ≡ over (o .words) rs

@@ -52,6 +52,26 @@ partOf-slice s from n e q = go n (drop from s) (e - from) (rw length-drop (omega
         cut (suc n) [] = rw (min-zero, take-nil)
         cut (suc n) (b ∷ t) = rw suc-min-suc (ap (λ (r : List ℕ). b ∷ r) (cut n t))
 
+-- ---- a property of every number
+
+-- from that of each place
+pub every-of : (P : ℕ → Type 0) (ns : List ℕ) → ((i : ℕ) → i < length ns → P (getD ns i 0)) → Every P ns
+every-of P [] h = no-more
+every-of P (n ∷ ns) h = one-more (h 0 (omega arith)) (every-of P ns (λ i l. h (suc i) (omega arith)))
+
+pub every-drop : {P : ℕ → Type 0} (i : ℕ) (ns : List ℕ) → Every P ns → Every P (drop i ns)
+every-drop zero ns a = a
+every-drop (suc i) [] a = no-more
+every-drop (suc i) (n ∷ ns) (one-more p a) = every-drop i ns a
+
+pub every-take : {P : ℕ → Type 0} (i : ℕ) (ns : List ℕ) → Every P ns → Every P (take i ns)
+every-take zero ns a = no-more
+every-take (suc i) [] a = no-more
+every-take (suc i) (n ∷ ns) (one-more p a) = one-more p (every-take i ns a)
+
+pub every-part : {P : ℕ → Type 0} (ns : List ℕ) (from k : ℕ) → Every P ns → Every P (partOf ns from k)
+every-part ns from k a = every-take k (drop from ns) (every-drop from ns a)
+
 -- ---- how many bytes there are
 
 -- w bytes a field

@@ -61,7 +61,7 @@ returns-2 c =
     let asked = passed .before in
     let start = asked .before .before .before .before .before .before .before in
     gives-passed (tables (start .args .tasks .now) (start .args .promises .now)) (asked .refusal .ensures) (passed .if1 .left)
-    (rw (← looked .first-bad .ensures, lt-ltb _ _ (bad .if2 .taken), ← c .entry-refusal .ensures) (record { answer = refl; tasks = refl; promises = refl; report = sym (over-none _) }))
+    (rw (← looked .first-bad .ensures, lt-ltb _ (length (start .args .list .now)) (bad .if2 .taken), ← c .entry-refusal .ensures) (record { answer = refl; tasks = refl; promises = refl; report = sym (over-none _) }))
 
 put-requires : tie.Need-put-requires
 put-requires c κs = search needs

@@ -1,0 +1,257 @@
+-- Every answer line has room in the lent one. A line number has at most 6 digits and a word at most 7 bytes; the fields of a step's answer
+-- are at most 322 numbers below 1000, since they are numbers and places of tables that were found within their bounds and sound, or the
+-- number of a refusal. So the line has at most 1,303 bytes. It shows the words of its own step alone (`shown-words`).
+-- Assumes nothing.
+use Prim.Native.Nat.{ℕ, zero, suc, _+_, _*_, _≤_, _<_}
+use mathlib.Core.List.{List, [], _∷_}
+use mathlib.Core.Bool.{Bool, true, false, cond, _&&_}
+use mathlib.Core.Path.{_≡_, refl, sym, subst}
+use mathlib.Core.Logic.{_≢_}
+use native.Mathlib.Omega.{arith}
+use native.Mathlib.Decide.{ℕ-discrete}
+use lib.Dec.{ltb}
+use borrow.Author.Tests.{ltb-true}
+use lib.ListN.{length, length-append}
+use Rattle.words.specs.Words.{Form, small, waitsOn, ownedBy}
+use Rattle.words.specs.Lists.{is, places, over}
+use Rattle.words.proofs.BoolLaws.{and-split}
+use Rattle.words.proofs.ListLaws.{places-at, places-length, count-le}
+use Rattle.words.proofs.WordLaws.{inBounds-true}
+use Rattle.rules.specs.Tables.{Tables, taskAt, promiseAt, live, awaitedBy, ownerOf}
+use Rattle.rules.specs.Sound.{TaskWord, unused, ready, ended, waits, PromiseWord, unmade, done, owned, blamed, Sound}
+use Rattle.rules.specs.Answers.{numberOf, valuesOf}
+use Rattle.rules.specs.Refusals.{Row, first, tableRows, getRows, entryRows, entryRefusal, firstBad}
+use Rattle.rules.specs.Steps.{Step, step-new, step-set, step-get, step-async, step-end, Outcome, outcome, awaits, withWait, withStarted, pairs, followed, guarded, started, rows, effect, raw, step}
+use Rattle.rules.specs.Demands.{numbers}
+use Rattle.rules.specs.declared.Answer.{Answer}
+use Rattle.rules.specs.declared.Answer.the-variants.{Opened, Made, Set, Value, Blamed, Waits, Cycle, Started, Ended, Refused, RefusedAt}
+use Rattle.rules.proofs.Accepted.{got-is}
+use Rattle.rules.proofs.GivesLaws.{tableRows-none}
+use Rattle.rules.proofs.Order.{guarded-none, guarded-some, got-cases}
+use Rattle.rules.proofs.PlaceLaws.{firstBad-place}
+use Rattle.rules.proofs.RefusalLaws.{actorRows-none, getRows-none}
+use Rattle.rules.proofs.SoundTest.{chain-bound}
+use Rattle.rules.proofs.Promises.{test-means-sound}
+use Rattle.numbers.proofs.PrintLaws.{dec-six}
+use Rattle.writers.specs.Texts.{Every, no-more, one-more}
+use Rattle.writers.proofs.WriterLaws.{fieldsText-four}
+use Rattle.answers.specs.AnswerText.{wordOf, fieldsOf, answerText, longestAnswer}
+use Rattle.answers.proofs.ShownLaws.{wordsShown, fieldsOf-over, fieldsOf-length, fieldsOf-every, every-in, every-append}
+
+abbrev Low : ℕ → Type 0
+Low n = n < 1000
+
+-- ---- the bytes of a line
+
+wordOf-length : (a : Answer) → length (wordOf a) ≤ 7
+unfolding wordOf
+wordOf-length Opened = omega arith
+wordOf-length Made = omega arith
+wordOf-length (Set n) = omega arith
+wordOf-length Value = omega arith
+wordOf-length (Blamed b) = omega arith
+wordOf-length (Waits k) = omega arith
+wordOf-length (Cycle k) = omega arith
+wordOf-length Started = omega arith
+wordOf-length (Ended m n) = omega arith
+wordOf-length (Refused r) = omega arith
+wordOf-length (RefusedAt r i) = omega arith
+
+text-fits : (n : ℕ) (a : Answer) (rs : List ℕ) → n ≤ 999999 → Every Low (fieldsOf a rs) → length (fieldsOf a rs) ≤ 322
+    → length (answerText n a rs) ≤ longestAnswer
+unfolding answerText
+text-fits n a rs h low few =
+    rw (length-append, length-append, length-append)
+    (omega (arith, dec-six n (omega arith), wordOf-length a, fieldsText-four (fieldsOf a rs) low))
+
+pub refused-fits : (n r : ℕ) (rs : List ℕ) → n ≤ 999999 → r < 1000 → length (answerText n (Refused r) rs) ≤ longestAnswer
+unfolding fieldsOf
+refused-fits n r rs h l = text-fits n (Refused r) rs h (one-more l no-more) (omega arith)
+
+pub opened-fits : (n : ℕ) (rs : List ℕ) → n ≤ 999999 → length (answerText n Opened rs) ≤ longestAnswer
+unfolding fieldsOf
+opened-fits n rs h = text-fits n Opened rs h no-more (omega arith)
+
+-- ---- a step reports as many words as its answer shows
+
+guarded-by : (Q : Outcome → Type 0) (r : ℕ) (s : Tables) (o : Outcome) → (r ≢ 0 → Q (outcome (Refused r) s [])) → (r ≡ 0 → Q o) → Q (guarded r s o)
+guarded-by Q r s o refused passed = go (ℕ-discrete r 0)
+  where
+    go : Dec (r ≡ 0) → Q (guarded r s o)
+    go (yes z) = subst Q (sym (guarded-none r s o z)) (passed z)
+    go (no m) = subst Q (sym (guarded-some r s o m)) (refused m)
+
+started-by : (Q : Outcome → Type 0) (B : ℕ) (s : Tables) (t c : ℕ) (list : List ℕ) (i : ℕ)
+    → Q (outcome (RefusedAt (entryRefusal B (s .promises) t list i) i) s []) → Q (outcome Started (withStarted s c list) []) → Q (started B s t c list i)
+unfolding started
+started-by Q B s t c list i placed passed = go (ltb i (length list))
+  where
+    go : (b : Bool) → Q (cond b (outcome (RefusedAt (entryRefusal B (s .promises) t list i) i) s []) (outcome Started (withStarted s c list) []))
+    go true = placed
+    go false = passed
+
+pairs-length : (k : ℕ) (s : Tables) (t p : ℕ) → length (pairs k s t p) ≡ 2 * k
+unfolding pairs
+pairs-length zero s t p = refl
+pairs-length (suc k) s t p = omega (arith, pairs-length k s (ownerOf s p) (awaitedBy s (ownerOf s p)))
+
+abbrev Enough : Outcome → Type 0
+Enough o = wordsShown (o .answer) ≤ length (o .words)
+
+effect-enough : (F : Form) (s : Tables) (x : Step) → Enough (effect F s x)
+unfolding wordsShown
+effect-enough F s (step-new t p) = omega arith
+effect-enough F s (step-set t p) = omega arith
+effect-enough F s (step-get t p) =
+    got-cases Enough (F .base) s t p (promiseAt s p) (omega arith) (λ b. omega arith) (λ k. omega (arith, pairs-length k s t p)) (λ k. omega arith)
+effect-enough F s (step-async t c list) = started-by Enough (F .base) s t c list _ (omega arith) (omega arith)
+effect-enough F s (step-end t) = rw length-append (omega arith)
+
+step-enough : (F : Form) (n : ℕ) (s : Tables) (x : Step) → Enough (step F n s x)
+unfolding wordsShown
+step-enough F n s x = guarded-by Enough _ s _ (λ m. omega arith) (λ z. guarded-by Enough _ s _ (λ m. omega arith) (λ y. effect-enough F s x))
+
+-- the line of a step shows the step's own words, and none that the report held before
+pub shown-words : (F : Form) (n : ℕ) (s : Tables) (x : Step) (rs : List ℕ)
+    → fieldsOf (step F n s x .answer) (over (step F n s x .words) rs) ≡ fieldsOf (step F n s x .answer) (step F n s x .words)
+shown-words F n s x rs = fieldsOf-over (step F n s x .answer) (step F n s x .words) rs (step-enough F n s x)
+
+-- ---- its numbers are small
+
+-- the number, the values and the report words of an outcome
+record Modest (o : Outcome) : Type 0 where
+  pub number : Low (numberOf (o .answer))
+  pub values : Every Low (valuesOf (o .answer))
+  pub words : Every Low (o .words)
+  pub few : length (o .words) ≤ 320
+
+-- without words
+modest : {a : Answer} (s : Tables) → Low (numberOf a) → Every Low (valuesOf a) → Modest (outcome a s [])
+modest s l v = record { number = l; values = v; words = no-more; few = omega arith }
+
+-- a refusal's number is one of the paper's
+abbrev allBelow14 : List ℕ → Bool
+allBelow14 [] = true
+allBelow14 (n ∷ ns) = ltb n 14 && allBelow14 ns
+
+first-below : (all : List Row) → allBelow14 (numbers all) ≡ true → first all < 14
+unfolding first
+first-below [] e = omega arith
+first-below ((r, true) ∷ rest) e = ltb-true r 14 (and-split (ltb r 14) (allBelow14 (numbers rest)) e .0)
+first-below ((r, false) ∷ rest) e = first-below rest (and-split (ltb r 14) (allBelow14 (numbers rest)) e .1)
+
+rows-below : (F : Form) (s : Tables) (x : Step) → first (rows F s x) < 14
+rows-below F s (step-new t p) = first-below (rows F s (step-new t p)) refl
+rows-below F s (step-set t p) = first-below (rows F s (step-set t p)) refl
+rows-below F s (step-get t p) = first-below (rows F s (step-get t p)) refl
+rows-below F s (step-async t c list) = first-below (rows F s (step-async t c list)) refl
+rows-below F s (step-end t) = first-below (rows F s (step-end t)) refl
+
+entryRefusal-below : (B : ℕ) (ps : List ℕ) (t : ℕ) (list : List ℕ) (i : ℕ) → entryRefusal B ps t list i < 14
+unfolding entryRefusal
+entryRefusal-below B ps t list i = first-below (entryRows B ps t list i) refl
+
+-- the places of a table
+places-low : (f : ℕ → Bool) (ws : List ℕ) → length ws ≤ small .mostPromises → Every Low (places f 0 ws)
+places-low f ws h = every-in Low (places f 0 ws) (λ x i. omega (arith, places-at f 0 ws x i .within))
+
+places-few : (f : ℕ → Bool) (ws : List ℕ) → length ws ≤ small .mostPromises → Low (length (places f 0 ws))
+places-few f ws h = omega (arith, places-length f 0 ws)
+
+-- what a step of sound tables within their bounds answers
+module _ (s : Tables) (tasks : length (s .tasks) ≤ small .mostTasks) (promises : length (s .promises) ≤ small .mostPromises) (sd : Sound (small .base) s) where
+  owner-low : (p : ℕ) → Low (ownerOf s p)
+  owner-low p = go (sd .promiseWord p)
+    where
+      go : PromiseWord (length (s .tasks)) (small .base) (promiseAt s p) → Low (ownerOf s p)
+      go (unmade e) = omega arith
+      go (done e) = omega arith
+      go (owned t h e) = omega arith
+      go (blamed t h e) = omega arith
+
+  awaited-low : (t : ℕ) → Low (awaitedBy s t)
+  awaited-low t = go (sd .taskWord t)
+    where
+      go : TaskWord (length (s .promises)) (taskAt s t) → Low (awaitedBy s t)
+      go (unused e) = omega arith
+      go (ready e) = omega arith
+      go (ended e) = omega arith
+      go (waits p h e) = omega arith
+
+  pairs-low : (k t p : ℕ) → Low t → Low p → Every Low (pairs k s t p)
+  unfolding pairs
+  pairs-low zero t p a b = no-more
+  pairs-low (suc k) t p a b = one-more a (one-more b (pairs-low k (ownerOf s p) (awaitedBy s (ownerOf s p)) (owner-low p) (awaited-low (ownerOf s p))))
+
+  get-modest : (t p : ℕ) → first (rows small s (step-get t p)) ≡ 0 → Modest (effect small s (step-get t p))
+  unfolding followed numberOf valuesOf
+  get-modest t p e =
+      let (a, e₁) = actorRows-none (s .tasks) t (getRows (s .promises) p) e in
+      let (b, m) = getRows-none (s .promises) p e₁ in
+      got-is small s (omega arith) sd t p Modest (a .ready) b m
+      (λ x. modest s (omega arith) no-more)
+      (λ b h x. modest s (omega arith) (one-more (omega arith) no-more))
+      (λ u l h o c z.
+      let k = chain-bound s c in
+      let live-most = count-le live (s .tasks) in
+      record {
+        number = omega arith;
+        values = one-more (omega arith) no-more;
+        words = pairs-low (1 + length l) t p (omega (arith, a .below)) (omega arith);
+        few = omega (arith, pairs-length (1 + length l) s t p);
+      })
+      (λ u l h o c z. modest (withWait s t p) (omega arith) (one-more (omega (arith, chain-bound s c, count-le live (s .tasks))) no-more))
+
+  effect-modest : (x : Step) → first (rows small s x) ≡ 0 → Modest (effect small s x)
+  unfolding numberOf valuesOf
+  effect-modest (step-new t p) e = modest _ (omega arith) no-more
+  effect-modest (step-set t p) e =
+      record {
+        number = omega arith;
+        values = one-more (places-few (is (waitsOn p)) (s .tasks) (omega arith)) no-more;
+        words = places-low (is (waitsOn p)) (s .tasks) (omega arith);
+        few = omega (arith, places-length (is (waitsOn p)) 0 (s .tasks));
+      }
+  effect-modest (step-get t p) e = get-modest t p e
+  effect-modest (step-async t c list) e =
+      let bad = firstBad (entryRefusal (small .base) (s .promises) t list) (length list) 0 in
+      let at : Low bad = omega (arith, firstBad-place (small .base) (s .promises) t list (length list)) in
+      let by = entryRefusal-below (small .base) (s .promises) t list bad in
+      started-by Modest (small .base) s t c list bad (modest s (omega arith) (one-more at no-more)) (modest _ (omega arith) no-more)
+  effect-modest (step-end t) e =
+      let mine = is (ownedBy t) in
+      let theirs = awaits (s .promises) (ownedBy t) in
+      record {
+        number = omega arith;
+        values = one-more (places-few mine (s .promises) promises) (one-more (places-few theirs (s .tasks) (omega arith)) no-more);
+        words = every-append Low (places-low mine (s .promises) promises) (places-low theirs (s .tasks) (omega arith));
+        few = rw length-append (omega (arith, places-length mine 0 (s .promises), places-length theirs 0 (s .tasks)));
+      }
+
+refused-modest : (s : Tables) (r : ℕ) → r < 14 → Modest (outcome (Refused r) s [])
+unfolding numberOf valuesOf
+refused-modest s r h = modest s (omega arith) no-more
+
+-- refused or not, in whatever tables
+step-modest : (m : ℕ) (s : Tables) (x : Step) → Modest (step small m s x)
+step-modest m s x = guarded-by Modest (first (tableRows small m s)) s (raw small s x) (λ y. refused-modest s _ (first-below (tableRows small m s) refl)) within
+  where
+    within : first (tableRows small m s) ≡ 0 → Modest (raw small s x)
+    within z =
+        let (b, e) = tableRows-none small m s z in
+        let size = inBounds-true small (length (s .tasks)) (length (s .promises)) m b in
+        let sd = test-means-sound (small .base) s (omega (arith, size .tasks)) e in
+        guarded-by Modest (first (rows small s x)) s (effect small s x) (λ y. refused-modest s _ (rows-below small s x))
+        (λ y. effect-modest s (size .tasks) (size .promises) sd x y)
+
+-- ---- so every answer of a step has room
+
+pub step-answer-fits : (n m : ℕ) (s : Tables) (x : Step) (rs : List ℕ) → n ≤ 999999
+    → length (answerText n (step small m s x .answer) (over (step small m s x .words) rs)) ≤ longestAnswer
+step-answer-fits n m s x rs h =
+    let o = step small m s x in
+    let d = step-modest m s x in
+    let own = sym (shown-words small m s x rs) in
+    text-fits n (o .answer) (over (o .words) rs) h
+    (subst (Every Low) own (fieldsOf-every Low (o .answer) (o .words) (d .number) (d .values) (d .words)))
+    (subst (λ (ns : List ℕ). length ns ≤ 322) own (omega (arith, fieldsOf-length (o .answer) (o .words), d .few)))

@@ -1,0 +1,158 @@
+-- Laws of specs/Lines.antt: the parts of the entry, put together. Assumes nothing.
+use Prim.Native.Nat.{ℕ, _≤_}
+use mathlib.Core.Path.{_≡_, refl, sym, ap, _∙_}
+use mathlib.Core.Logic.{_≢_}
+use mathlib.Core.List.{List, [], _∷_, _++_}
+use mathlib.Core.Bool.{Bool, true, false, cond, not, _&&_}
+use native.Mathlib.Omega.{arith}
+use lib.Dec.{eqb, leb}
+use borrow.Author.Tests.{eq-eqb, ne-eqb, eqb-true, leb-true}
+use lib.ListN.{length, take, drop}
+use lib.Seq.{length-take-le, take-append-seam}
+use Rattle.words.specs.Words.{Form, small, sizesInBounds}
+use Rattle.words.specs.Lists.{over}
+use Rattle.words.proofs.ListLaws.{over-none}
+use Rattle.words.proofs.BoolLaws.{and-split}
+use Rattle.words.proofs.WordLaws.{sizesInBounds-true}
+use Rattle.rules.specs.Tables.{Tables, tables, fresh}
+use Rattle.rules.specs.Sessions.{freshRefusal, freshened, Freshens}
+use Rattle.rules.specs.Steps.{Outcome}
+use Rattle.rules.specs.Contracts.{Gives}
+use Rattle.rules.specs.declared.Answer.{Answer}
+use Rattle.rules.specs.declared.Answer.the-variants.{Opened, Refused}
+use Rattle.rules.proofs.RefusalLaws.{first-none, not-is-false}
+use Rattle.forms.specs.declared.Form as forms
+use Rattle.forms.specs.declared.Form.the-variants as V
+use Rattle.forms.specs.Judging.{countIn, formOf, entriesOf}
+use Rattle.forms.proofs.Theorems.{form-counts, entries-most, judged-whole}
+use Rattle.answers.specs.AnswerText.{answerText, longestAnswer}
+use Rattle.answers.proofs.Fits.{refused-fits, opened-fits, step-answer-fits}
+use Rattle.lines.specs.declared.Session.{Session}
+use Rattle.lines.specs.declared.Session.the-variants.{Unopened, Open}
+use Rattle.lines.specs.declared.Done.{Done}
+use Rattle.lines.specs.Lines.{Deed, refusedBy, opened, openDeed, unopenedDeed, openOutcome, deedOf, inSession, lentWell, entered, Entry, Enters, Does, InPart}
+
+-- what was done to the parts that were lent was done to the first words of the tables
+pub inPart-of : (T P : ℕ) (ts ps : List ℕ) {o : Outcome} {rs pt pp rs′ : List ℕ} {a : Answer} → Gives o rs a pt pp rs′ → InPart o T P ts ps rs a (pt ++ drop T ts) (pp ++ drop P ps) rs′
+inPart-of T P ts ps g = record {
+  answer = g .answer;
+  tasks = ap (λ (x : List ℕ). x ++ drop T ts) (g .tasks);
+  promises = ap (λ (x : List ℕ). x ++ drop P ps) (g .promises);
+  report = g .report;
+}
+
+-- ---- before a session is opened
+
+refusal-number : (F : Form) (T P : ℕ) → freshRefusal F T P ≡ 0 → sizesInBounds F T P ≡ true
+unfolding freshRefusal
+refusal-number F T P e = not-is-false (sizesInBounds F T P) (first-none 1 (not (sizesInBounds F T P)) [] (λ (z : _≡_ {A = ℕ} 1 0). omega arith) e .0)
+
+-- where an open is not refused, T and P are within their bounds
+pub freshRefusal-none : (T P : ℕ) → freshRefusal small T P ≡ 0 → (T ≤ 64) × (P ≤ 256)
+freshRefusal-none T P e = let s = sizesInBounds-true small T P (refusal-number small T P e) in (s .tasks, s .promises)
+
+pub does-refused : {d : Deed} (ts ps : List ℕ) (session : Session) (r : ℕ) {x : Done} → d ≡ refusedBy r session ts ps → x .answer ≡ Refused r → x .session ≡ session → Does d [] x ts ps []
+does-refused ts ps session r e a b = rw e (record { answer = a; session = b; tasks = refl; promises = refl; report = sym (over-none []) })
+
+pub openDeed-refused : (ts ps : List ℕ) (T P r : ℕ) → r ≡ freshRefusal small T P → r ≢ 0 → openDeed ts ps T P ≡ refusedBy r Unopened ts ps
+unfolding openDeed
+openDeed-refused ts ps T P r e n = rw (← e, ne-eqb r 0 n)
+
+-- fresh tables of the parts that were lent are fresh tables of that size
+freshened-part : (T P : ℕ) (ts ps : List ℕ) → T ≤ length ts → P ≤ length ps → freshRefusal small T P ≡ 0 → freshened small (tables (take T ts) (take P ps)) ≡ fresh T P
+unfolding freshened
+freshened-part T P ts ps h k e = rw (length-take-le T ts h, length-take-le P ps k, eq-eqb (freshRefusal small T P) 0 e)
+
+pub does-opened : (T P : ℕ) (ts ps : List ℕ) {r : ℕ} {pt pp : List ℕ} {x : Done} → T ≤ length ts → P ≤ length ps → freshRefusal small T P ≡ 0
+    → Freshens small (tables (take T ts) (take P ps)) r pt pp → x .answer ≡ Opened → x .session ≡ Open T P → Does (openDeed ts ps T P) [] x (pt ++ drop T ts) (pp ++ drop P ps) []
+unfolding openDeed
+does-opened T P ts ps h k e f a b =
+    let z = freshened-part T P ts ps h k e in
+    rw (eq-eqb (freshRefusal small T P) 0 e)
+    (record {
+      answer = a;
+      session = b;
+      tasks = ap (λ (l : List ℕ). l ++ drop T ts) (f .tasks ∙ ap (λ (s : Tables). s .tasks) z);
+      promises = ap (λ (l : List ℕ). l ++ drop P ps) (f .promises ∙ ap (λ (s : Tables). s .promises) z);
+      report = sym (over-none []);
+    })
+
+-- a line before a session is opened writes no report
+unopened-words : (f : forms.Form) (ts ps : List ℕ) → unopenedDeed f ts ps .words ≡ []
+unfolding unopenedDeed openDeed
+unopened-words (V.Open T P) ts ps = go (eqb (freshRefusal small T P) 0)
+  where
+    go : (b : Bool) → cond b (opened T P ts ps) (refusedBy (freshRefusal small T P) Unopened ts ps) .words ≡ []
+    go true = refl
+    go false = refl
+unopened-words (V.New t p) ts ps = refl
+unopened-words (V.Set t p) ts ps = refl
+unopened-words (V.Get t p) ts ps = refl
+unopened-words (V.Async t c k) ts ps = refl
+unopened-words (V.End t) ts ps = refl
+unopened-words (V.Bad c) ts ps = refl
+
+pub does-unopened : (f : forms.Form) (vs ts ps rs : List ℕ) (n : ℕ) {x : Done} {ts′ ps′ : List ℕ} → Does (unopenedDeed f ts ps) [] x ts′ ps′ [] → Does (deedOf f vs Unopened ts ps n) rs x ts′ ps′ rs
+unfolding deedOf
+does-unopened f vs ts ps rs n d = record {
+  answer = d .answer;
+  session = d .session;
+  tasks = d .tasks;
+  promises = d .promises;
+  report = sym (ap (λ (ws : List ℕ). over ws rs) (unopened-words f ts ps) ∙ over-none rs);
+}
+
+-- ---- in an open session
+
+pub inSession-open : (T P : ℕ) → inSession (Open T P) ≡ true → (T ≤ 64) × (P ≤ 256)
+unfolding inSession
+inSession-open T P e = let s = sizesInBounds-true small T P e in (s .tasks, s .promises)
+
+pub does-open : (f : forms.Form) (vs ts ps rs : List ℕ) (n T P : ℕ) {x : Done} {a : Answer} {ts′ ps′ rs′ : List ℕ}
+    → InPart (openOutcome f vs n (tables (take T ts) (take P ps))) T P ts ps rs a ts′ ps′ rs′ → x .answer ≡ a → x .session ≡ Open T P → Does (deedOf f vs (Open T P) ts ps n) rs x ts′ ps′ rs′
+unfolding deedOf
+does-open f vs ts ps rs n T P d e g = record { answer = e ∙ d .answer; session = g; tasks = d .tasks; promises = d .promises; report = d .report }
+
+-- ---- the entry
+
+pub record Lent (n : ℕ) (session : Session) (tasks promises report out : ℕ) : Type 0 where
+  pub most : n ≤ 999999
+  pub session-is : inSession session ≡ true
+  pub tasks-are : tasks ≡ 64
+  pub promises-are : promises ≡ 256
+  pub room : longestAnswer ≤ out
+
+pub lentWell-true : (n : ℕ) (session : Session) (tasks promises report out : ℕ) → lentWell n session tasks promises report out ≡ true → Lent n session tasks promises report out
+unfolding lentWell
+lentWell-true n session tasks promises report out e =
+    let (abc, d) = and-split ((leb 1 n && leb n 999999) && inSession session && (eqb tasks 64 && eqb promises 256)) (eqb report 384 && leb longestAnswer out) e in
+    let (ab, c) = and-split ((leb 1 n && leb n 999999) && inSession session) (eqb tasks 64 && eqb promises 256) abc in
+    let (a, b) = and-split (leb 1 n && leb n 999999) (inSession session) ab in
+    let (a₁, a₂) = and-split (leb 1 n) (leb n 999999) a in
+    let (c₁, c₂) = and-split (eqb tasks 64) (eqb promises 256) c in
+    let (d₁, d₂) = and-split (eqb report 384) (leb longestAnswer out) d in
+    record { most = leb-true n 999999 a₂; session-is = b; tasks-are = eqb-true tasks 64 c₁; promises-are = eqb-true promises 256 c₂; room = leb-true longestAnswer out d₂ }
+
+-- the lent words have room for every list
+pub count-most : (s : List ℕ) → countIn (formOf s) ≤ 1024
+count-most s = go (formOf s) refl
+  where
+    go : (f : forms.Form) → formOf s ≡ f → countIn f ≤ 1024
+    unfolding countIn
+    go (V.Open T P) e = omega arith
+    go (V.New t p) e = omega arith
+    go (V.Set t p) e = omega arith
+    go (V.Get t p) e = omega arith
+    go (V.Async t c k) e = omega (arith, entries-most s t c k e)
+    go (V.End t) e = omega arith
+    go (V.Bad c) e = omega arith
+
+async-not-bad : {t c k j : ℕ} → V.Async t c k ≡ V.Bad j → ⊥
+async-not-bad e = let z : _≡_ {A = ℕ} 0 1 = cc in omega arith
+
+-- what the lent words then hold is the list of the line
+async-entries : (s o x : List ℕ) (t c k : ℕ) → formOf s ≡ V.Async t c k → x ≡ over (entriesOf s) o → take k x ≡ entriesOf s
+unfolding over countIn
+async-entries s o x t c k e w =
+    let n : k ≡ length (entriesOf s) = sym (ap countIn e) ∙ form-counts s (λ j z. async-not-bad (sym e ∙ z)) in
+    rw (w, n) (take-append-seam (entriesOf s) (drop (length (entriesOf s)) o))

@@ -1,0 +1,79 @@
+use native.Mathlib.Omega.{arith}
+use Rattle.words.proofs.Tests.{tests}
+use borrow.Author.Needs.{needs}
+use Rattle.lines.proofs.act.Statement.{statement}
+use Rattle.lines.proofs.act.Tie as tie
+use Rattle.lines.proofs.act.Reads as reads
+use Rattle.lines.proofs.act.Lts as lts
+use Rattle.lines.proofs.in_part.Reads as in-part-reads
+use Rattle.lines.proofs.unopened.Reads as unopened-reads
+
+-- src/lib.rt:163:45
+enum-told : tie.Need-enum-told
+enum-told c = search needs
+
+-- src/lib.rt:163:30
+unopened-requires : tie.Need-unopened-requires
+unopened-requires c κs = search needs
+
+-- src/lib.rt:164:23
+enum-known-session : tie.Need-enum-known-session
+enum-known-session c = search needs
+
+-- src/lib.rt:168:17
+cast-in-part : tie.Need-cast-in-part
+cast-in-part c = search needs
+
+-- src/lib.rt:169:17
+cast-in-part-2 : tie.Need-cast-in-part-2
+cast-in-part-2 c = search needs
+
+-- src/lib.rt:165:17
+in-part-requires : tie.Need-in-part-requires
+in-part-requires c κs = search (needs, tests)
+
+-- src/lib.rt:151:1
+same-length : tie.Need-same-length
+same-length c = search needs
+
+-- src/lib.rt:151:1
+same-length-2 : tie.Need-same-length-2
+same-length-2 c = search needs
+
+-- src/lib.rt:151:1
+returns : tie.Need-returns
+returns c = search (needs, tests)
+
+-- src/lib.rt:151:1
+same-length-3 : tie.Need-same-length-3
+same-length-3 c = search needs
+
+-- src/lib.rt:151:1
+same-length-4 : tie.Need-same-length-4
+same-length-4 c = search needs
+
+-- src/lib.rt:151:1
+same-length-5 : tie.Need-same-length-5
+same-length-5 c = search needs
+
+-- src/lib.rt:151:1
+returns-2 : tie.Need-returns-2
+returns-2 c = search (needs, tests)
+
+pub act-spec : {M : Type 1} → statement M
+act-spec =
+    tie.close
+    (tie.spec
+    enum-told
+    unopened-requires
+    enum-known-session
+    cast-in-part
+    cast-in-part-2
+    in-part-requires
+    same-length
+    same-length-2
+    returns
+    same-length-3
+    same-length-4
+    same-length-5
+    returns-2)

@@ -1,0 +1,54 @@
+use native.Mathlib.Omega.{arith}
+use Rattle.words.proofs.Tests.{tests}
+use borrow.Author.Needs.{needs}
+use Rattle.lines.proofs.enter.Statement.{statement}
+use Rattle.lines.proofs.enter.Tie as tie
+use Rattle.lines.proofs.enter.Reads as reads
+use Rattle.lines.proofs.enter.Lts as lts
+use Rattle.lines.proofs.answer_line.Reads as answer-line-reads
+use Rattle.lines.proofs.lent_well.Reads as lent-well-reads
+
+-- src/lib.rt:220:8
+lent-well-requires : tie.Need-lent-well-requires
+lent-well-requires c κs = search needs
+
+-- src/lib.rt:228:9
+answer-line-requires : tie.Need-answer-line-requires
+answer-line-requires c κs = search (needs, tests)
+
+-- src/lib.rt:228:9
+same-length : tie.Need-same-length
+same-length c = search needs
+
+-- src/lib.rt:228:9
+same-length-2 : tie.Need-same-length-2
+same-length-2 c = search needs
+
+-- src/lib.rt:228:9
+same-length-3 : tie.Need-same-length-3
+same-length-3 c = search needs
+
+-- src/lib.rt:228:9
+same-length-4 : tie.Need-same-length-4
+same-length-4 c = search needs
+
+-- src/lib.rt:228:9
+returns : tie.Need-returns
+returns c = search (needs, tests)
+
+-- src/lib.rt:209:1
+returns-2 : tie.Need-returns-2
+returns-2 c = search (needs, tests)
+
+pub enter-spec : {M : Type 1} → statement M
+enter-spec =
+    tie.close
+    (tie.spec
+    lent-well-requires
+    answer-line-requires
+    same-length
+    same-length-2
+    same-length-3
+    same-length-4
+    returns
+    returns-2)
