@@ -1,6 +1,6 @@
 -- Laws of specs/Lines.antt: the parts of the entry, put together. Assumes nothing.
-use Prim.Native.Nat.{ℕ, _≤_}
-use mathlib.Core.Path.{_≡_, refl, sym, ap, _∙_}
+use Prim.Native.Nat.{ℕ, _≤_, _<_}
+use mathlib.Core.Path.{_≡_, refl, sym, ap, subst, subst₂, _∙_}
 use mathlib.Core.Logic.{_≢_}
 use mathlib.Core.List.{List, [], _∷_, _++_}
 use mathlib.Core.Bool.{Bool, true, false, cond, not, _&&_}
@@ -16,20 +16,24 @@ use Rattle.words.proofs.BoolLaws.{and-split}
 use Rattle.words.proofs.WordLaws.{sizesInBounds-true}
 use Rattle.rules.specs.Tables.{Tables, tables, fresh}
 use Rattle.rules.specs.Sessions.{freshRefusal, freshened, Freshens}
-use Rattle.rules.specs.Steps.{Outcome}
+use Rattle.rules.specs.Refusals.{first}
+use Rattle.rules.specs.Steps.{Outcome, step-new, step-set, step-get, step-async, step-end}
 use Rattle.rules.specs.Contracts.{Gives}
 use Rattle.rules.specs.declared.Answer.{Answer}
 use Rattle.rules.specs.declared.Answer.the-variants.{Opened, Refused}
 use Rattle.rules.proofs.RefusalLaws.{first-none, not-is-false}
-use Rattle.forms.specs.declared.Form as forms
-use Rattle.forms.specs.declared.Form.the-variants as V
-use Rattle.forms.specs.Judging.{countIn, formOf, entriesOf}
+use Rattle.forms.specs.declared.Form.{Form as LineForm}
+use Rattle.forms.specs.declared.Form.the-variants as F
+use Rattle.forms.specs.Judging.{countIn, formOf, entriesOf, Judged}
 use Rattle.forms.proofs.Theorems.{form-counts, entries-most, judged-whole}
+use Rattle.buffers.specs.Buffers.{fitting, Wrote}
+use Rattle.buffers.proofs.BufferLaws.{over-length, fitting-most, wrote-room}
 use Rattle.answers.specs.AnswerText.{answerText, longestAnswer}
 use Rattle.answers.proofs.Fits.{refused-fits, opened-fits, step-answer-fits}
 use Rattle.lines.specs.declared.Session.{Session}
 use Rattle.lines.specs.declared.Session.the-variants.{Unopened, Open}
 use Rattle.lines.specs.declared.Done.{Done}
+use Rattle.lines.specs.declared.Entered.{Entered}
 use Rattle.lines.specs.Lines.{Deed, refusedBy, opened, openDeed, unopenedDeed, openOutcome, deedOf, inSession, lentWell, entered, Entry, Enters, Does, InPart}
 
 -- what was done to the parts that were lent was done to the first words of the tables
@@ -78,21 +82,21 @@ does-opened T P ts ps h k e f a b =
     })
 
 -- a line before a session is opened writes no report
-unopened-words : (f : forms.Form) (ts ps : List ℕ) → unopenedDeed f ts ps .words ≡ []
+unopened-words : (f : LineForm) (ts ps : List ℕ) → unopenedDeed f ts ps .words ≡ []
 unfolding unopenedDeed openDeed
-unopened-words (V.Open T P) ts ps = go (eqb (freshRefusal small T P) 0)
+unopened-words (F.Open T P) ts ps = go (eqb (freshRefusal small T P) 0)
   where
     go : (b : Bool) → cond b (opened T P ts ps) (refusedBy (freshRefusal small T P) Unopened ts ps) .words ≡ []
     go true = refl
     go false = refl
-unopened-words (V.New t p) ts ps = refl
-unopened-words (V.Set t p) ts ps = refl
-unopened-words (V.Get t p) ts ps = refl
-unopened-words (V.Async t c k) ts ps = refl
-unopened-words (V.End t) ts ps = refl
-unopened-words (V.Bad c) ts ps = refl
+unopened-words (F.New t p) ts ps = refl
+unopened-words (F.Set t p) ts ps = refl
+unopened-words (F.Get t p) ts ps = refl
+unopened-words (F.Async t c k) ts ps = refl
+unopened-words (F.End t) ts ps = refl
+unopened-words (F.Bad c) ts ps = refl
 
-pub does-unopened : (f : forms.Form) (vs ts ps rs : List ℕ) (n : ℕ) {x : Done} {ts′ ps′ : List ℕ} → Does (unopenedDeed f ts ps) [] x ts′ ps′ [] → Does (deedOf f vs Unopened ts ps n) rs x ts′ ps′ rs
+pub does-unopened : (f : LineForm) (vs ts ps rs : List ℕ) (n : ℕ) {x : Done} {ts′ ps′ : List ℕ} → Does (unopenedDeed f ts ps) [] x ts′ ps′ [] → Does (deedOf f vs Unopened ts ps n) rs x ts′ ps′ rs
 unfolding deedOf
 does-unopened f vs ts ps rs n d = record {
   answer = d .answer;
@@ -108,7 +112,7 @@ pub inSession-open : (T P : ℕ) → inSession (Open T P) ≡ true → (T ≤ 64
 unfolding inSession
 inSession-open T P e = let s = sizesInBounds-true small T P e in (s .tasks, s .promises)
 
-pub does-open : (f : forms.Form) (vs ts ps rs : List ℕ) (n T P : ℕ) {x : Done} {a : Answer} {ts′ ps′ rs′ : List ℕ}
+pub does-open : (f : LineForm) (vs ts ps rs : List ℕ) (n T P : ℕ) {x : Done} {a : Answer} {ts′ ps′ rs′ : List ℕ}
     → InPart (openOutcome f vs n (tables (take T ts) (take P ps))) T P ts ps rs a ts′ ps′ rs′ → x .answer ≡ a → x .session ≡ Open T P → Does (deedOf f vs (Open T P) ts ps n) rs x ts′ ps′ rs′
 unfolding deedOf
 does-open f vs ts ps rs n T P d e g = record { answer = e ∙ d .answer; session = g; tasks = d .tasks; promises = d .promises; report = d .report }
@@ -135,24 +139,111 @@ lentWell-true n session tasks promises report out e =
 
 -- the lent words have room for every list
 pub count-most : (s : List ℕ) → countIn (formOf s) ≤ 1024
+unfolding countIn
 count-most s = go (formOf s) refl
   where
-    go : (f : forms.Form) → formOf s ≡ f → countIn f ≤ 1024
-    unfolding countIn
-    go (V.Open T P) e = omega arith
-    go (V.New t p) e = omega arith
-    go (V.Set t p) e = omega arith
-    go (V.Get t p) e = omega arith
-    go (V.Async t c k) e = omega (arith, entries-most s t c k e)
-    go (V.End t) e = omega arith
-    go (V.Bad c) e = omega arith
+    go : (f : LineForm) → formOf s ≡ f → countIn f ≤ 1024
+    go (F.Open T P) e = omega arith
+    go (F.New t p) e = omega arith
+    go (F.Set t p) e = omega arith
+    go (F.Get t p) e = omega arith
+    go (F.Async t c k) e = omega (arith, entries-most s t c k e)
+    go (F.End t) e = omega arith
+    go (F.Bad c) e = omega arith
 
-async-not-bad : {t c k j : ℕ} → V.Async t c k ≡ V.Bad j → ⊥
+async-not-bad : {t c k j : ℕ} → F.Async t c k ≡ F.Bad j → ⊥
 async-not-bad e = let z : _≡_ {A = ℕ} 0 1 = cc in omega arith
 
 -- what the lent words then hold is the list of the line
-async-entries : (s o x : List ℕ) (t c k : ℕ) → formOf s ≡ V.Async t c k → x ≡ over (entriesOf s) o → take k x ≡ entriesOf s
+async-entries : (s o x : List ℕ) (t c k : ℕ) → formOf s ≡ F.Async t c k → x ≡ over (entriesOf s) o → take k x ≡ entriesOf s
 unfolding over countIn
 async-entries s o x t c k e w =
     let n : k ≡ length (entriesOf s) = sym (ap countIn e) ∙ form-counts s (λ j z. async-not-bad (sym e ∙ z)) in
     rw (w, n) (take-append-seam (entriesOf s) (drop (length (entriesOf s)) o))
+
+-- a line does what it does with its own list, however the list was lent
+deed-list : (f : LineForm) (vs vs′ : List ℕ) (session : Session) (ts ps : List ℕ) (n : ℕ) → ((t c k : ℕ) → f ≡ F.Async t c k → vs ≡ vs′) → deedOf f vs session ts ps n ≡ deedOf f vs′ session ts ps n
+unfolding deedOf openOutcome
+deed-list f vs vs′ Unopened ts ps n h = refl
+deed-list (F.Open T P) vs vs′ (Open T′ P′) ts ps n h = refl
+deed-list (F.New t p) vs vs′ (Open T P) ts ps n h = refl
+deed-list (F.Set t p) vs vs′ (Open T P) ts ps n h = refl
+deed-list (F.Get t p) vs vs′ (Open T P) ts ps n h = refl
+deed-list (F.Async t c k) vs vs′ (Open T P) ts ps n h = rw (h t c k refl)
+deed-list (F.End t) vs vs′ (Open T P) ts ps n h = refl
+deed-list (F.Bad c) vs vs′ (Open T P) ts ps n h = refl
+
+pub deed-read : (s o x : List ℕ) (f : LineForm) (session : Session) (ts ps : List ℕ) (n : ℕ) → Judged s o x f → 1024 ≤ length o
+    → deedOf f (take (countIn f) x) session ts ps n ≡ deedOf (formOf s) (entriesOf s) session ts ps n
+unfolding countIn over Rattle.buffers.specs.Buffers.over
+deed-read s o x f session ts ps n j h =
+    ap (λ (g : LineForm). deedOf g (take (countIn g) x) session ts ps n) (j .form)
+    ∙ deed-list (formOf s) (take (countIn (formOf s)) x) (entriesOf s) session ts ps n
+    (λ t c k e. ap (λ (g : LineForm). take (countIn g) x) e ∙ async-entries s o x t c k e (judged-whole j h))
+
+-- ---- every answer fits
+
+deed-fits-refused : (n r : ℕ) (session : Session) (ts ps rs : List ℕ) → n ≤ 999999 → r < 1000
+    → length (answerText n (refusedBy r session ts ps .answer) (over (refusedBy r session ts ps .words) rs)) ≤ longestAnswer
+deed-fits-refused n r session ts ps rs h k = refused-fits n r (over [] rs) h k
+
+fresh-small : (T P : ℕ) → freshRefusal small T P < 1000
+unfolding freshRefusal first
+fresh-small T P = go (sizesInBounds small T P)
+  where
+    go : (b : Bool) → cond (not b) 1 0 < 1000
+    go true = omega arith
+    go false = omega arith
+
+pub deed-fits : (f : LineForm) (vs : List ℕ) (session : Session) (ts ps rs : List ℕ) (m n : ℕ) → n ≤ 999999
+    → length (answerText n (deedOf f vs session ts ps m .answer) (over (deedOf f vs session ts ps m .words) rs)) ≤ longestAnswer
+unfolding deedOf unopenedDeed openDeed openOutcome
+deed-fits (F.Open T P) vs Unopened ts ps rs m n h = go (eqb (freshRefusal small T P) 0)
+  where
+    go : (b : Bool) → length (answerText n (cond b (opened T P ts ps) (refusedBy (freshRefusal small T P) Unopened ts ps) .answer) (over (cond b (opened T P ts ps) (refusedBy (freshRefusal small T P) Unopened ts ps) .words) rs)) ≤ longestAnswer
+    go true = opened-fits n (over [] rs) h
+    go false = refused-fits n (freshRefusal small T P) (over [] rs) h (fresh-small T P)
+deed-fits (F.New t p) vs Unopened ts ps rs m n h = refused-fits n 15 (over [] rs) h (omega arith)
+deed-fits (F.Set t p) vs Unopened ts ps rs m n h = refused-fits n 15 (over [] rs) h (omega arith)
+deed-fits (F.Get t p) vs Unopened ts ps rs m n h = refused-fits n 15 (over [] rs) h (omega arith)
+deed-fits (F.Async t c k) vs Unopened ts ps rs m n h = refused-fits n 15 (over [] rs) h (omega arith)
+deed-fits (F.End t) vs Unopened ts ps rs m n h = refused-fits n 15 (over [] rs) h (omega arith)
+deed-fits (F.Bad c) vs Unopened ts ps rs m n h = refused-fits n 14 (over [] rs) h (omega arith)
+deed-fits (F.Open T′ P′) vs (Open T P) ts ps rs m n h = refused-fits n 15 (over [] rs) h (omega arith)
+deed-fits (F.New t p) vs (Open T P) ts ps rs m n h = step-answer-fits n m (tables (take T ts) (take P ps)) (step-new t p) rs h
+deed-fits (F.Set t p) vs (Open T P) ts ps rs m n h = step-answer-fits n m (tables (take T ts) (take P ps)) (step-set t p) rs h
+deed-fits (F.Get t p) vs (Open T P) ts ps rs m n h = step-answer-fits n m (tables (take T ts) (take P ps)) (step-get t p) rs h
+deed-fits (F.Async t c k) vs (Open T P) ts ps rs m n h = step-answer-fits n m (tables (take T ts) (take P ps)) (step-async t c vs) rs h
+deed-fits (F.End t) vs (Open T P) ts ps rs m n h = step-answer-fits n m (tables (take T ts) (take P ps)) (step-end t) rs h
+deed-fits (F.Bad c) vs (Open T P) ts ps rs m n h = refused-fits n 14 (over [] rs) h (omega arith)
+
+-- what was done and what was written make the entry
+pub enters-of : (n : ℕ) (rs out : List ℕ) {d d′ : Deed} {x : Done} {e : Entered} {ts ps rs′ out′ : List ℕ} → d ≡ d′ → Does d rs x ts ps rs′
+    → length (answerText n (d′ .answer) (over (d′ .words) rs)) ≤ length out → Wrote (answerText n (x .answer) rs′) out out′ (e .bytes) → e .number ≡ 0 → e .session ≡ x .session
+    → Enters (entered n rs out d′) e ts ps rs′ out′
+unfolding over Rattle.buffers.specs.Buffers.over
+enters-of n rs out {d} {d′} {x} {e} {ts} {ps} {rs′} {out′} z does fit wrote number session =
+    let g : Does d′ rs x ts ps rs′ = subst (λ (y : Deed). Does y rs x ts ps rs′) z does in
+    let w : Wrote (answerText n (d′ .answer) (over (d′ .words) rs)) out out′ (e .bytes) = subst₂ (λ (a : Answer) (r : List ℕ). Wrote (answerText n a r) out out′ (e .bytes)) (g .answer) (g .report) wrote in
+    let room = wrote-room w fit in
+    record { number = number; session = session ∙ g .session; bytes = room .0; tasks = g .tasks; promises = g .promises; report = g .report; answer = room .1 }
+
+-- 01, "How much each contract must say": any two outcomes that the contract of `enter` allows coincide
+pub enters-unique : {e : Entry} {r q : Entered} {ts ts′ ps ps′ rs rs′ out out′ : List ℕ} → Enters e r ts ps rs out → Enters e q ts′ ps′ rs′ out′
+    → (r .number ≡ q .number) × (r .session ≡ q .session) × (r .bytes ≡ q .bytes) × (ts ≡ ts′) × (ps ≡ ps′) × (rs ≡ rs′) × (out ≡ out′)
+enters-unique g h = (
+  g .number ∙ sym (h .number),
+  g .session ∙ sym (h .session),
+  g .bytes ∙ sym (h .bytes),
+  g .tasks ∙ sym (h .tasks),
+  g .promises ∙ sym (h .promises),
+  g .report ∙ sym (h .report),
+  g .answer ∙ sym (h .answer),
+)
+
+-- the list that a line was read into is as long as it was lent
+pub judged-count : (s o x : List ℕ) (f : LineForm) → Judged s o x f → 1024 ≤ length o → countIn f ≤ length x
+judged-count s o x f j h =
+    let e : length x ≡ length o = ap (λ (l : List ℕ). length l) (j .words) ∙ over-length (fitting (entriesOf s) o) o (fitting-most (entriesOf s) o) in
+    let k : countIn f ≤ 1024 = subst (λ (g : LineForm). countIn g ≤ 1024) (sym (j .form)) (count-most s) in
+    omega arith

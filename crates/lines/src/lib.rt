@@ -53,7 +53,14 @@ fn in_session(session: Session) -> bool
 }
 
 // Whether the line number, the session value and the lengths of what is lent are as they must be.
-fn lent_well(number: u32, session: Session, tasks: usize, promises: usize, report: usize, answer: usize) -> bool
+fn lent_well(
+    number: u32,
+    session: Session,
+    tasks: usize,
+    promises: usize,
+    report: usize,
+    answer: usize,
+) -> bool
     ensures { λ r. ⌜ r ≡ lentWell number session tasks promises report answer ⌝ }
 {
     let numbered = (1 <= number) & (number <= 999999);
@@ -63,7 +70,13 @@ fn lent_well(number: u32, session: Session, tasks: usize, promises: usize, repor
 }
 
 // A line in an open session, on the tables of the session.
-fn in_open(form: Form, list: &[u16], tasks: &mut [u16], promises: &mut [u16], report: &mut [u16]) -> Answer
+fn in_open(
+    form: Form,
+    list: &[u16],
+    tasks: &mut [u16],
+    promises: &mut [u16],
+    report: &mut [u16],
+) -> Answer
     requires { ⌜ countIn form ≤ length (now list) ⌝ }
     ensures { λ r. ⌜ Gives (openOutcome form (take (countIn form) (now (list .entry))) (length (now (report .entry))) (tablesOf (now (tasks .entry)) (now (promises .entry)))) (now (report .entry)) r (now (tasks .exit)) (now (promises .exit)) (now (report .exit)) ⌝ }
 {
@@ -138,13 +151,7 @@ fn in_part(
     requires { ⌜ (countIn form ≤ length (now list)) × (t ≤ length (now tasks)) × (p ≤ length (now promises)) ⌝ }
     ensures { λ r. ⌜ InPart (openOutcome form (take (countIn form) (now (list .entry))) (length (now (report .entry))) (tablesOf (take t (now (tasks .entry))) (take p (now (promises .entry))))) t p (now (tasks .entry)) (now (promises .entry)) (now (report .entry)) r (now (tasks .exit)) (now (promises .exit)) (now (report .exit)) ⌝ }
 {
-    in_open(
-        form,
-        list,
-        &mut tasks[0..t],
-        &mut promises[0..p],
-        report,
-    )
+    in_open(form, list, &mut tasks[0..t], &mut promises[0..p], report)
 }
 
 // What a line does.
@@ -162,15 +169,7 @@ fn act(
     match session {
         Session::Unopened => unopened(form, tasks, promises),
         Session::Open(t, p) => {
-            let answer = in_part(
-                form,
-                list,
-                t as usize,
-                p as usize,
-                tasks,
-                promises,
-                report,
-            );
+            let answer = in_part(form, list, t as usize, p as usize, tasks, promises, report);
             Done {
                 answer,
                 session: Session::Open(t, p),
@@ -179,22 +178,22 @@ fn act(
     }
 }
 
-// The entry, where all that is lent is as it must be. A line of 2,048 bytes has at most 1,019 entries in its list.
+// The entry, where all that is lent is as it must be, and `list` has room for the entries of an async's list.
 fn answer_line(
     line: &[u8],
     number: u32,
     session: Session,
+    list: &mut [u16],
     tasks: &mut [u16],
     promises: &mut [u16],
     report: &mut [u16],
     answer: &mut [u8],
 ) -> Entered
-    requires { ⌜ lentWell number session (length (now tasks)) (length (now promises)) (length (now report)) (length (now answer)) ≡ true ⌝ }
+    requires { ⌜ (lentWell number session (length (now tasks)) (length (now promises)) (length (now report)) (length (now answer)) ≡ true) × (1024 ≤ length (now list)) ⌝ }
     ensures { λ r. ⌜ Enters (entered number (now (report .entry)) (now (answer .entry)) (deedOf (formOf (now (line .entry))) (entriesOf (now (line .entry))) session (now (tasks .entry)) (now (promises .entry)) (length (now (report .entry))))) r (now (tasks .exit)) (now (promises .exit)) (now (report .exit)) (now (answer .exit)) ⌝ }
 {
-    let mut list = [0; 1024];
-    let form = judge(line, &mut list);
-    let done = act(form, &list, session, tasks, promises, report);
+    let form = judge(line, list);
+    let done = act(form, list, session, tasks, promises, report);
     let told = done.answer;
     let next = done.session;
     let bytes = put_answer(answer, number, told, report);
@@ -225,7 +224,18 @@ pub fn enter(
         report.len(),
         answer.len(),
     ) {
-        return answer_line(line, number, session, tasks, promises, report, answer);
+        // a line of 2,048 bytes has at most 1,019 entries in its list
+        let mut list = [0; 1024];
+        return answer_line(
+            line,
+            number,
+            session,
+            &mut list,
+            tasks,
+            promises,
+            report,
+            answer,
+        );
     }
     Entered {
         number: 1,

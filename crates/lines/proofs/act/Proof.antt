@@ -1,3 +1,5 @@
+use mathlib.Core.Path.{refl}
+use Rattle.lines.proofs.LineLaws.{inSession-open, does-unopened, does-open}
 use native.Mathlib.Omega.{arith}
 use Rattle.words.proofs.Tests.{tests}
 use borrow.Author.Needs.{needs}
@@ -30,7 +32,7 @@ cast-in-part-2 c = search needs
 
 -- src/lib.rt:165:17
 in-part-requires : tie.Need-in-part-requires
-in-part-requires c κs = search (needs, tests)
+in-part-requires c κs = let g = c .before .before .before .before .session .given in let h = inSession-open (g .0 .0) (g .0 .1 .0) (rw (g .1) at (c .before .before .before .before .before .before .before .before .before .before .pre .1)) in (c .before .before .before .before .before .before .before .before .before .before .pre .0, omega (arith, h .0, c .before .before .before .before .before .before .before .before .before .before .pre .2), omega (arith, h .1, c .before .before .before .before .before .before .before .before .before .before .pre .3))
 
 -- src/lib.rt:151:1
 same-length : tie.Need-same-length
@@ -42,7 +44,7 @@ same-length-2 c = search needs
 
 -- src/lib.rt:151:1
 returns : tie.Need-returns
-returns c = search (needs, tests)
+returns c = let a = c .before .before .before .before .before .before .before .before .before .before .before .before .before .args in rw (c .before .before .before .before .before .before .before .enum-told .given .1) (does-unopened (a .form) _ (a .tasks .now) (a .promises .now) (a .report .now) _ (c .before .before .before .before .unopened .ensures))
 
 -- src/lib.rt:151:1
 same-length-3 : tie.Need-same-length-3
@@ -58,7 +60,7 @@ same-length-5 c = search needs
 
 -- src/lib.rt:151:1
 returns-2 : tie.Need-returns-2
-returns-2 c = search (needs, tests)
+returns-2 c = let a = c .before .before .before .before .before .before .before .before .before .before .before .before .before .before .before .before .before .args in rw (c .before .before .before .before .before .before .before .before .before .before .before .session .given .1) (does-open (a .form) _ (a .tasks .now) (a .promises .now) (a .report .now) _ _ _ (c .before .before .before .before .before .before .in-part .ensures) refl refl)
 
 pub act-spec : {M : Type 1} → statement M
 act-spec =

@@ -1,3 +1,7 @@
+use mathlib.Core.Path.{refl}
+use lib.ListN.{length}
+use Rattle.forms.specs.Judging.{formOf, entriesOf}
+use Rattle.lines.proofs.LineLaws.{lentWell-true, judged-count, deed-read, deed-fits, enters-of}
 use native.Mathlib.Omega.{arith}
 use Rattle.words.proofs.Tests.{tests}
 use borrow.Author.Needs.{needs}
@@ -9,21 +13,13 @@ use Rattle.answers.proofs.put_answer.Reads as put-answer-reads
 use Rattle.forms.proofs.judge.Reads as judge-reads
 use Rattle.lines.proofs.act.Reads as act-reads
 
--- src/lib.rt:196:28
-slice-aggregate-judge : tie.Need-slice-aggregate-judge
-slice-aggregate-judge c = search needs
-
 -- src/lib.rt:196:9
 judge-requires : tie.Need-judge-requires
 judge-requires c κs = search needs
 
--- src/lib.rt:197:26
-slice-aggregate-act : tie.Need-slice-aggregate-act
-slice-aggregate-act c = search needs
-
 -- src/lib.rt:197:9
 act-requires : tie.Need-act-requires
-act-requires c κs = search (needs, tests)
+act-requires c κs = let w = lentWell-true _ _ _ _ _ _ (c .before .before .before .before .before .before .before .before .before .before .before .before .before .before .pre .0) in (judged-count _ _ _ _ (c .before .before .before .before .before .before .judge .ensures) (c .before .before .before .before .before .before .before .before .before .before .before .before .before .before .pre .1), w .session-is, w .tasks-are, w .promises-are)
 
 -- src/lib.rt:200:9
 put-answer-requires : tie.Need-put-answer-requires
@@ -46,20 +42,29 @@ same-length-4 : tie.Need-same-length-4
 same-length-4 c = search needs
 
 -- src/lib.rt:183:1
+same-length-5 : tie.Need-same-length-5
+same-length-5 c = search needs
+
+-- src/lib.rt:183:1
 returns : tie.Need-returns
-returns c = search (needs, tests)
+returns c =
+    let a = c .before .before .before .before .before .before .before .before .before .before .before .before .before .before .before .before .before .before .before .before .before .before .before .before .before .before .args in
+    let w = lentWell-true _ _ _ _ _ _ (c .before .before .before .before .before .before .before .before .before .before .before .before .before .before .before .before .before .before .before .before .before .before .before .before .before .before .pre .0) in
+    let fit = deed-fits (formOf (a .line .now)) (entriesOf (a .line .now)) (a .session) (a .tasks .now) (a .promises .now) (a .report .now) (length (a .report .now)) (a .number) (w .most) in
+    enters-of (a .number) (a .report .now) (a .answer .now)
+    (deed-read (a .line .now) (a .list .now) _ _ (a .session) (a .tasks .now) (a .promises .now) (length (a .report .now)) (c .before .before .before .before .before .before .before .before .before .before .before .before .before .before .before .before .before .before .judge .ensures) (c .before .before .before .before .before .before .before .before .before .before .before .before .before .before .before .before .before .before .before .before .before .before .before .before .before .before .pre .1)) (c .before .before .before .before .before .before .before .before .before .before .before .act .ensures)
+    (omega (arith, fit, w .room)) (c .before .before .put-answer .ensures) refl refl
 
 pub answer-line-spec : {M : Type 1} → statement M
 answer-line-spec =
     tie.close
     (tie.spec
-    slice-aggregate-judge
     judge-requires
-    slice-aggregate-act
     act-requires
     put-answer-requires
     same-length
     same-length-2
     same-length-3
     same-length-4
+    same-length-5
     returns)

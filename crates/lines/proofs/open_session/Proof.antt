@@ -58,7 +58,7 @@ same-length-2 c = search needs
 
 -- src/lib.rt:80:1
 returns-2 : tie.Need-returns-2
-returns-2 c = 
+returns-2 c =
     let a = c .before .before .before .before .before .before .before .before .before .before .before .args in
     let e = sym (c .before .before .before .before .before .before .before .before .fresh-refusal .ensures) ∙ c .before .before .before .before .before .before .before .if1 .left in
     let h = freshRefusal-none (a .t) (a .p) e in
