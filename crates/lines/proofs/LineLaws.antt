@@ -25,16 +25,18 @@ use Rattle.rules.proofs.RefusalLaws.{first-none, not-is-false}
 use Rattle.forms.specs.declared.Form.{Form as LineForm}
 use Rattle.forms.specs.declared.Form.the-variants as F
 use Rattle.forms.specs.Judging.{countIn, formOf, entriesOf, Judged}
+use Rattle.forms.specs.Forms.{longestLine}
+use Rattle.forms.proofs.JudgingLaws.{formOf-long}
 use Rattle.forms.proofs.Theorems.{form-counts, entries-most, judged-whole}
 use Rattle.buffers.specs.Buffers.{fitting, Wrote}
 use Rattle.buffers.proofs.BufferLaws.{over-length, fitting-most, wrote-room}
-use Rattle.answers.specs.AnswerText.{answerText, longestAnswer}
+use Rattle.answers.specs.AnswerText.{fieldsOf, answerText, longestAnswer}
 use Rattle.answers.proofs.Fits.{refused-fits, opened-fits, step-answer-fits}
 use Rattle.lines.specs.declared.Session.{Session}
 use Rattle.lines.specs.declared.Session.the-variants.{Unopened, Open}
 use Rattle.lines.specs.declared.Done.{Done}
 use Rattle.lines.specs.declared.Entered.{Entered}
-use Rattle.lines.specs.Lines.{Deed, refusedBy, opened, openDeed, unopenedDeed, openOutcome, deedOf, inSession, lentWell, entered, Entry, Enters, Does, InPart}
+use Rattle.lines.specs.Lines.{Deed, refusedBy, opened, openDeed, unopenedDeed, openOutcome, deedOf, inSession, lentWell, entered, Entry, Enters, Does, InPart, overText, OverLine}
 
 -- what was done to the parts that were lent was done to the first words of the tables
 pub inPart-of : (T P : ℕ) (ts ps : List ℕ) {o : Outcome} {rs pt pp rs′ : List ℕ} {a : Answer} → Gives o rs a pt pp rs′ → InPart o T P ts ps rs a (pt ++ drop T ts) (pp ++ drop P ps) rs′
@@ -247,3 +249,37 @@ judged-count s o x f j h =
     let e : length x ≡ length o = ap (λ (l : List ℕ). length l) (j .words) ∙ over-length (fitting (entriesOf s) o) o (fitting-most (entriesOf s) o) in
     let k : countIn f ≤ 1024 = subst (λ (g : LineForm). countIn g ≤ 1024) (sym (j .form)) (count-most s) in
     omega arith
+
+-- ---- a line that is too long
+
+-- a refusal shows no word of the report
+refused-text : (n r : ℕ) (rs : List ℕ) → answerText n (Refused r) rs ≡ answerText n (Refused r) []
+unfolding answerText fieldsOf
+refused-text n r rs = refl
+
+pub over-written : (n : ℕ) (rs out : List ℕ) {out′ : List ℕ} {r : ℕ} → lentWell n Unopened 64 256 384 (length out) ≡ true → Wrote (answerText n (Refused 14) rs) out out′ r → OverLine n out out′ r
+unfolding overText over Rattle.buffers.specs.Buffers.over
+over-written n rs out {out′} {r} e w =
+    let l = lentWell-true n Unopened 64 256 384 (length out) e in
+    let w′ : Wrote (answerText n (Refused 14) []) out out′ r = subst (λ (t : List ℕ). Wrote t out out′ r) (refused-text n 14 rs) w in
+    let room = wrote-room w′ (omega (arith, refused-fits n 14 [] (l .most) (omega arith), l .room)) in
+    record { bytes = rw e (room .0); answer = rw e (room .1) }
+
+pub over-refused : (n : ℕ) (out : List ℕ) → lentWell n Unopened 64 256 384 (length out) ≡ false → OverLine n out out 0
+unfolding overText
+over-refused n out e = record { bytes = rw e; answer = rw e (sym (over-none out)) }
+
+-- it is what the entry answers to any line that is too long
+formed-long : (s : List ℕ) → longestLine < length s → formOf s ≡ F.Bad longestLine
+formed-long s h = formOf-long s h
+
+long-deed : (vs : List ℕ) (session : Session) (ts ps : List ℕ) (n c : ℕ) → deedOf (F.Bad c) vs session ts ps n .answer ≡ Refused 14
+unfolding deedOf unopenedDeed openOutcome
+long-deed vs Unopened ts ps n c = refl
+long-deed vs (Open T P) ts ps n c = refl
+
+pub over-is-the-entry : (s : List ℕ) → longestLine < length s → (n m : ℕ) (session : Session) (ts ps rs : List ℕ)
+    → answerText n (deedOf (formOf s) (entriesOf s) session ts ps m .answer) rs ≡ answerText n (Refused 14) []
+over-is-the-entry s h n m session ts ps rs =
+    ap (λ (a : Answer). answerText n a rs) (ap (λ (f : LineForm). deedOf f (entriesOf s) session ts ps m .answer) (formed-long s h) ∙ long-deed (entriesOf s) session ts ps m longestLine)
+    ∙ refused-text n 14 rs

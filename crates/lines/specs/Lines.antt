@@ -152,3 +152,11 @@ pub record InPart (o : Outcome) (T P : ℕ) (ts ps rs : List ℕ) (a : Answer) (
   pub tasks : ts′ ≡ o .after .tasks ++ drop T ts
   pub promises : ps′ ≡ o .after .promises ++ drop P ps
   pub report : rs′ ≡ over (o .words) rs
+
+-- "passes over the rest of a longer line (one refusal 14)": the answer to a line that is too long, whatever it held and whatever the session is
+unfoldable pub overText : ℕ → ℕ → List ℕ
+overText n room = cond (lentWell n Unopened 64 256 384 room) (answerText n (Refused 14) []) []
+
+pub record OverLine (n : ℕ) (out out′ : List ℕ) (r : ℕ) : Type 0 where
+  pub bytes : r ≡ length (overText n (length out))
+  pub answer : out′ ≡ over (overText n (length out)) out

@@ -20,7 +20,7 @@ ghost use lib.ListN.{length, take};
 ghost use Rattle.rules.specs.Tables.{tables as tablesOf};
 ghost use Rattle.rules.specs.Contracts.{Gives};
 ghost use Rattle.forms.specs.Judging.{countIn, formOf, entriesOf};
-ghost use Rattle.lines.specs.Lines.{inSession, lentWell, unopenedDeed, openDeed, openOutcome, deedOf, entered, entryOf, Enters, Does, InPart};
+ghost use Rattle.lines.specs.Lines.{inSession, lentWell, unopenedDeed, openDeed, openOutcome, deedOf, entered, entryOf, Enters, Does, InPart, OverLine};
 
 // The session value: unopened, or the numbers of tasks and promises of the session.
 pub enum Session {
@@ -242,4 +242,16 @@ pub fn enter(
         session,
         bytes: 0,
     }
+}
+
+// The answer to a line that is longer than 2,048 bytes, of which only the line number is known: how many bytes were written, and 0 where the line number or the
+// room for the answer is not as it must be.
+pub fn line_over(number: u32, answer: &mut [u8]) -> usize
+    ensures { λ r. ⌜ OverLine number (now (answer .entry)) (now (answer .exit)) r ⌝ }
+{
+    if lent_well(number, Session::Unopened, 64, 256, 384, answer.len()) {
+        let report = [0; 1];
+        return put_answer(answer, number, Answer::Refused(14), &report);
+    }
+    0
 }
