@@ -17,6 +17,7 @@ use Rattle.rules.specs.Steps.{Step, step-set, step-get, step-async, step
 use Rattle.rules.specs.ProvedSet.{provedSet, taken, expected}
 use Rattle.rules.specs.Demands.{Apart, Good, numbers, paperRows, paperEntryRows, FirstGiven, NoneGiven, BadPlace, Refusal, OwnersFrom, Alarm, Named, Woken, Demand3}
 use Rattle.rules.specs.Contracts.{Gives}
+use Rattle.rules.specs.Sessions.{Freshens}
 use Rattle.rules.specs.declared.Answer.{Answer}
 use Rattle.rules.specs.declared.Answer.the-variants.{Set, Waits, Cycle, Ended, Refused, RefusedAt}
 use Rattle.rules.proofs.Alarms as alarms
@@ -82,6 +83,9 @@ module _ (F : Form) (n : ℕ) (s : Tables) where
 pub one-outcome : {o : Outcome} {rs : List ℕ} {a a′ : Answer} {ts ts′ ps ps′ after after′ : List ℕ} → Gives o rs a ts ps after → Gives o rs a′ ts′ ps′ after′
     → (a ≡ a′) × (ts ≡ ts′) × (ps ≡ ps′) × (after ≡ after′)
 one-outcome g h = (g .answer ∙ sym (h .answer), g .tasks ∙ sym (h .tasks), g .promises ∙ sym (h .promises), g .report ∙ sym (h .report))
+
+pub one-freshening : {F : Form} {s : Tables} {r r′ : ℕ} {ts ts′ ps ps′ : List ℕ} → Freshens F s r ts ps → Freshens F s r′ ts′ ps′ → (r ≡ r′) × (ts ≡ ts′) × (ps ≡ ps′)
+one-freshening g h = (g .number ∙ sym (h .number), g .tasks ∙ sym (h .tasks), g .promises ∙ sym (h .promises))
 
 -- ---- DEMAND 2
 

@@ -1,1 +1,2 @@
 pub mod ComesLaws
+pub mod Theorems

@@ -1,2 +1,3 @@
 pub mod PairLaws
 pub mod CountLaws
+pub mod Theorems
