@@ -9,7 +9,8 @@ use native.Mathlib.Decide.{decLt}
 use lib.ListN.{length, take, drop, length-append, length-take, take-append-drop, drop-of-length-le}
 use lib.Seq.{take-append-seam, drop-append-seam, take-all}
 use Rattle.buffers.specs.Buffers.{fitting, Wrote, Added}
-use Rattle.buffers.proofs.BufferLaws.{over-is, over-over, over-none, fitting-none, fitting-full, fitting-append, wrote-added}
+use Rattle.words.proofs.ListLaws.{over-none}
+use Rattle.buffers.proofs.BufferLaws.{over-is, over-over, fitting-none, fitting-full, fitting-append, wrote-added}
 use Rattle.fields.specs.Fields.{tab}
 use Rattle.numbers.specs.Numbers.{dec}
 use Rattle.writers.specs.Texts.{fieldText, fieldsText}

@@ -11,17 +11,11 @@ use native.Mathlib.Nat.{sub-zero, suc-sub-suc}
 use lib.ListN.{length, take, drop, set, length-append, length-take, length-drop, drop-of-length-le}
 use lib.Seq.{length-take-le, set-out, take-all, take-nil, take-append-seam, drop-append-seam, drop-drop, set-split, drop-cons, set-append-seam, append-snoc}
 use borrow.Rule.Slice.PartMut.{putMid}
-use Rattle.buffers.specs.Buffers.{over, fitting, Wrote, Added}
+use Rattle.words.specs.Lists.{over}
+use Rattle.words.proofs.ListLaws.{over-none, over-length}
+use Rattle.buffers.specs.Buffers.{fitting, Wrote, Added}
 
 -- ---- over
-
-pub over-none : (o : List ℕ) → over [] o ≡ o
-unfolding over
-over-none o = refl
-
-pub over-length : (xs s : List ℕ) → length xs ≤ length s → length (over xs s) ≡ length s
-unfolding over
-over-length xs s h = simp (length-append, length-drop) (omega arith)
 
 -- one word more
 pub over-snoc : (xs s : List ℕ) (v : ℕ) → length xs < length s → set (over xs s) (length xs) v ≡ over (xs ++ (v ∷ [])) s

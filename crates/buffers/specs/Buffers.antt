@@ -1,7 +1,6 @@
 -- What a writer leaves in a buffer that it was lent. Paper: 01, "Lines", "bytes after its LF stay", and "The five steps",
 -- "The report is written from its start; words after those named stay as they were".
 --
---   over xs s              the list s with its first words written over by xs
 --   fitting t o            as much of the text t as the buffer o has room for
 --   Wrote t o x r          the text t was written at the front of o: x is what o holds then, and r how many bytes were written
 --   Added t o at x r       the text t was written into o from the place `at` on; r is the place after it
@@ -10,10 +9,7 @@ use Prim.Native.Nat.{ℕ, _+_}
 use mathlib.Core.List.{List, _++_}
 use mathlib.Core.Path.{_≡_}
 use lib.ListN.{length, take, drop}
-
--- "words after those named stay as they were"
-unfoldable pub over : List ℕ → List ℕ → List ℕ
-over xs s = xs ++ drop (length xs) s
+use Rattle.words.specs.Lists.{over}
 
 unfoldable pub fitting : List ℕ → List ℕ → List ℕ
 fitting t o = take (length o) t

@@ -7,8 +7,10 @@ use mathlib.Core.Path.{_≡_, refl, sym, _∙_}
 use native.Mathlib.Omega.{arith}
 use borrow.Author.Tests.{lt-ltb, le-ltb}
 use lib.ListN.{length, drop, length-drop}
-use Rattle.buffers.specs.Buffers.{over, fitting}
-use Rattle.buffers.proofs.BufferLaws.{over-none, fitting-none}
+use Rattle.words.specs.Lists.{over}
+use Rattle.buffers.specs.Buffers.{fitting}
+use Rattle.words.proofs.ListLaws.{over-none}
+use Rattle.buffers.proofs.BufferLaws.{fitting-none}
 use Rattle.records.specs.Records.{recordOf}
 use Rattle.records.specs.declared.Record.{Record}
 use Rattle.lists.specs.Lists.{listOf}

@@ -10,7 +10,7 @@ use native.Mathlib.Omega.{arith}
 use native.Mathlib.Decide.{decLt}
 use lib.ListN.{length, take, drop, length-append, length-drop}
 use lib.Seq.{take-add}
-use Rattle.buffers.specs.Buffers.{over}
+use Rattle.words.specs.Lists.{over}
 use Rattle.buffers.proofs.BufferLaws.{fitting-room}
 use Rattle.numbers.specs.Numbers.{dec}
 use Rattle.numbers.proofs.NumberLaws.{numberOf-is-nonempty}

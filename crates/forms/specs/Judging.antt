@@ -16,7 +16,8 @@ use mathlib.Core.Bool.{cond}
 use mathlib.Core.Path.{_≡_}
 use lib.ListN.{length, drop}
 use lib.Dec.{ltb}
-use Rattle.buffers.specs.Buffers.{over, fitting}
+use Rattle.words.specs.Lists.{over}
+use Rattle.buffers.specs.Buffers.{fitting}
 use Rattle.keywords.specs.declared.Keyword.{Keyword}
 use Rattle.keywords.specs.declared.Keyword.the-variants as W
 use Rattle.records.specs.Records.{recordOf}

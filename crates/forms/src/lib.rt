@@ -1,7 +1,8 @@
 // Whether a line has one of the forms, which, and the column where it goes bad if it has none.
 ghost use mathlib.Core.Path.{_≡_};
 ghost use lib.ListN.{drop};
-ghost use Rattle.buffers.specs.Buffers.{over, fitting};
+ghost use Rattle.words.specs.Lists.{over};
+ghost use Rattle.buffers.specs.Buffers.{fitting};
 ghost use Rattle.lists.specs.Lists.{listOf, valuesOf};
 ghost use Rattle.forms.specs.Judging.{Judged, withList};
 use lists::Listed;

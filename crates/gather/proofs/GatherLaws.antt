@@ -8,7 +8,8 @@ use borrow.Author.Tests.{lt-ltb, le-ltb}
 use lib.ListN.{length, take, drop, drop-of-length-le}
 use lib.Seq.{take-nil, length-take-le}
 use Rattle.buffers.specs.Buffers.{Added}
-use Rattle.buffers.proofs.BufferLaws.{over-none, fitting-none}
+use Rattle.words.proofs.ListLaws.{over-none}
+use Rattle.buffers.proofs.BufferLaws.{fitting-none}
 use Rattle.fields.specs.Fields.{runTo, endFrom}
 use Rattle.fields.proofs.FieldLaws.{runTo-most, endFrom-from, endFrom-within}
 use Rattle.gather.specs.declared.Got.the-variants as G

@@ -11,8 +11,10 @@ use native.Mathlib.Omega.{arith}
 use native.Mathlib.Decide.{decLt}
 use lib.ListN.{length, take, drop, length-append, drop-of-length-le}
 use lib.Seq.{take-all, take-append-seam}
-use Rattle.buffers.specs.Buffers.{over, fitting, Wrote, Added}
-use Rattle.buffers.proofs.BufferLaws.{over-is, over-none, over-length, fitting-none, fitting-room, fitting-most, fitting-full, fitting-past, wrote-added}
+use Rattle.words.specs.Lists.{over}
+use Rattle.buffers.specs.Buffers.{fitting, Wrote, Added}
+use Rattle.words.proofs.ListLaws.{over-none, over-length}
+use Rattle.buffers.proofs.BufferLaws.{over-is, fitting-none, fitting-room, fitting-most, fitting-full, fitting-past, wrote-added}
 use Rattle.gather.specs.declared.Got.{Got}
 use Rattle.gather.specs.declared.Got.the-variants as G
 use Rattle.gather.specs.declared.Numbering.{Numbering}

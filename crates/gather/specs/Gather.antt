@@ -7,6 +7,7 @@
 --   counted L n        how many bytes of a line are there, up to one more than a buffer of L holds: that says that it is too long
 --   gotOf L have s at  what a block brings to a line of which `have` bytes are there
 --   countIn r          the count in such an answer
+--   gatheredIn o have s at   what the buffer o holds then
 --   Gathered o have s at x r    the block s was gathered from `at` on into the buffer o: x is what it holds then, and r the answer
 --   Holds t o x n      the buffer, which held o, holds the line t so far: x is what it holds, and n its count
 --   numberAfter n      the number of the line after line n; none after 999999
@@ -18,7 +19,8 @@ use mathlib.Core.Bool.{Bool, true, false, cond}
 use mathlib.Core.Path.{_≡_}
 use lib.ListN.{length, take, drop}
 use lib.Dec.{ltb, eqb}
-use Rattle.buffers.specs.Buffers.{over, fitting}
+use Rattle.words.specs.Lists.{over}
+use Rattle.buffers.specs.Buffers.{fitting}
 use Rattle.fields.specs.Fields.{runTo, endFrom}
 use Rattle.gather.specs.declared.Got.{Got}
 use Rattle.gather.specs.declared.Got.the-variants as G
@@ -48,9 +50,12 @@ countIn (G.Line n next) = n
 countIn (G.More n) = n
 
 -- the bytes before `have` stay, the piece goes after them as far as there is room, and the bytes after it stay
+abbrev pub gatheredIn : List ℕ → ℕ → List ℕ → ℕ → List ℕ
+gatheredIn o have s from = take have o ++ over (fitting (pieceOf s from) (drop have o)) (drop have o)
+
 pub record Gathered (o : List ℕ) (have : ℕ) (s : List ℕ) (from : ℕ) (x : List ℕ) (r : Got) : Type 0 where
   pub answer : r ≡ gotOf (length o) have s from
-  pub bytes : x ≡ take have o ++ over (fitting (pieceOf s from) (drop have o)) (drop have o)
+  pub bytes : x ≡ gatheredIn o have s from
 
 pub record Holds (t o x : List ℕ) (n : ℕ) : Type 0 where
   pub bytes : x ≡ over (fitting t o) o

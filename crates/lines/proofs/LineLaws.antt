@@ -1,14 +1,15 @@
 -- Laws of specs/Lines.antt: the parts of the entry, put together. Assumes nothing.
-use Prim.Native.Nat.{ℕ, _≤_, _<_}
+use Prim.Native.Nat.{ℕ, suc, _-_, _≤_, _<_}
 use mathlib.Core.Path.{_≡_, refl, sym, ap, subst, subst₂, _∙_}
 use mathlib.Core.Logic.{_≢_}
 use mathlib.Core.List.{List, [], _∷_, _++_}
 use mathlib.Core.Bool.{Bool, true, false, cond, not, _&&_}
 use native.Mathlib.Omega.{arith}
+use native.Mathlib.Nat.{sub-zero}
 use lib.Dec.{eqb, leb}
-use borrow.Author.Tests.{eq-eqb, ne-eqb, eqb-true, leb-true}
-use lib.ListN.{length, take, drop}
-use lib.Seq.{length-take-le, take-append-seam}
+use borrow.Author.Tests.{eq-eqb, ne-eqb, eqb-true, leb-true, lt-ltb, le-ltb}
+use lib.ListN.{length, take, drop, replicate, length-replicate}
+use lib.Seq.{length-take-le, take-append-seam, take-all}
 use Rattle.words.specs.Words.{Form, small, sizesInBounds}
 use Rattle.words.specs.Lists.{over}
 use Rattle.words.proofs.ListLaws.{over-none}
@@ -26,17 +27,18 @@ use Rattle.forms.specs.declared.Form.{Form as LineForm}
 use Rattle.forms.specs.declared.Form.the-variants as F
 use Rattle.forms.specs.Judging.{countIn, formOf, entriesOf, Judged}
 use Rattle.forms.specs.Forms.{longestLine}
-use Rattle.forms.proofs.JudgingLaws.{formOf-long}
+use Rattle.forms.proofs.JudgingLaws.{formOf-long, entriesOf-long}
 use Rattle.forms.proofs.Theorems.{form-counts, entries-most, judged-whole}
 use Rattle.buffers.specs.Buffers.{fitting, Wrote}
-use Rattle.buffers.proofs.BufferLaws.{over-length, fitting-most, wrote-room}
+use Rattle.words.proofs.ListLaws.{over-length}
+use Rattle.buffers.proofs.BufferLaws.{fitting-most, wrote-room}
 use Rattle.answers.specs.AnswerText.{fieldsOf, answerText, longestAnswer}
 use Rattle.answers.proofs.Fits.{refused-fits, opened-fits, step-answer-fits}
 use Rattle.lines.specs.declared.Session.{Session}
 use Rattle.lines.specs.declared.Session.the-variants.{Unopened, Open}
 use Rattle.lines.specs.declared.Done.{Done}
 use Rattle.lines.specs.declared.Entered.{Entered}
-use Rattle.lines.specs.Lines.{Deed, refusedBy, opened, openDeed, unopenedDeed, openOutcome, deedOf, inSession, lentWell, entered, Entry, Enters, Does, InPart, overText, OverLine}
+use Rattle.lines.specs.Lines.{Deed, refusedBy, opened, openDeed, unopenedDeed, openOutcome, deedOf, inSession, lentWell, entered, Entry, Enters, Does, InPart, heldLine, entryOf, replyOf}
 
 -- what was done to the parts that were lent was done to the first words of the tables
 pub inPart-of : (T P : ℕ) (ts ps : List ℕ) {o : Outcome} {rs pt pp rs′ : List ℕ} {a : Answer} → Gives o rs a pt pp rs′ → InPart o T P ts ps rs a (pt ++ drop T ts) (pp ++ drop P ps) rs′
@@ -177,7 +179,7 @@ deed-list (F.Bad c) vs vs′ (Open T P) ts ps n h = refl
 
 pub deed-read : (s o x : List ℕ) (f : LineForm) (session : Session) (ts ps : List ℕ) (n : ℕ) → Judged s o x f → 1024 ≤ length o
     → deedOf f (take (countIn f) x) session ts ps n ≡ deedOf (formOf s) (entriesOf s) session ts ps n
-unfolding countIn over Rattle.buffers.specs.Buffers.over
+unfolding countIn over
 deed-read s o x f session ts ps n j h =
     ap (λ (g : LineForm). deedOf g (take (countIn g) x) session ts ps n) (j .form)
     ∙ deed-list (formOf s) (take (countIn (formOf s)) x) (entriesOf s) session ts ps n
@@ -223,7 +225,7 @@ deed-fits (F.Bad c) vs (Open T P) ts ps rs m n h = refused-fits n 14 (over [] rs
 pub enters-of : (n : ℕ) (rs out : List ℕ) {d d′ : Deed} {x : Done} {e : Entered} {ts ps rs′ out′ : List ℕ} → d ≡ d′ → Does d rs x ts ps rs′
     → length (answerText n (d′ .answer) (over (d′ .words) rs)) ≤ length out → Wrote (answerText n (x .answer) rs′) out out′ (e .bytes) → e .number ≡ 0 → e .session ≡ x .session
     → Enters (entered n rs out d′) e ts ps rs′ out′
-unfolding over Rattle.buffers.specs.Buffers.over
+unfolding over
 enters-of n rs out {d} {d′} {x} {e} {ts} {ps} {rs′} {out′} z does fit wrote number session =
     let g : Does d′ rs x ts ps rs′ = subst (λ (y : Deed). Does y rs x ts ps rs′) z does in
     let w : Wrote (answerText n (d′ .answer) (over (d′ .words) rs)) out out′ (e .bytes) = subst₂ (λ (a : Answer) (r : List ℕ). Wrote (answerText n a r) out out′ (e .bytes)) (g .answer) (g .report) wrote in
@@ -250,36 +252,33 @@ judged-count s o x f j h =
     let k : countIn f ≤ 1024 = subst (λ (g : LineForm). countIn g ≤ 1024) (sym (j .form)) (count-most s) in
     omega arith
 
--- ---- a line that is too long
+-- ---- a line that was gathered
 
--- a refusal shows no word of the report
-refused-text : (n r : ℕ) (rs : List ℕ) → answerText n (Refused r) rs ≡ answerText n (Refused r) []
-unfolding answerText fieldsOf
-refused-text n r rs = refl
+-- a line that the buffer has room for is there, whole
+pub heldLine-within : (x : List ℕ) (n : ℕ) → n ≤ length x → heldLine x n ≡ take n x
+unfolding heldLine
+heldLine-within x n h = rw (le-ltb (length x) n h)
 
-pub over-written : (n : ℕ) (rs out : List ℕ) {out′ : List ℕ} {r : ℕ} → lentWell n Unopened 64 256 384 (length out) ≡ true → Wrote (answerText n (Refused 14) rs) out out′ r → OverLine n out out′ r
-unfolding overText over Rattle.buffers.specs.Buffers.over
-over-written n rs out {out′} {r} e w =
-    let l = lentWell-true n Unopened 64 256 384 (length out) e in
-    let w′ : Wrote (answerText n (Refused 14) []) out out′ r = subst (λ (t : List ℕ). Wrote t out out′ r) (refused-text n 14 rs) w in
-    let room = wrote-room w′ (omega (arith, refused-fits n 14 [] (l .most) (omega arith), l .room)) in
-    record { bytes = rw e (room .0); answer = rw e (room .1) }
+-- the buffer's own bytes are the line that they are
+heldLine-whole : (x : List ℕ) → heldLine x (length x) ≡ x
+heldLine-whole x = heldLine-within x (length x) (omega arith) ∙ take-all (length x) x (omega arith)
 
-pub over-refused : (n : ℕ) (out : List ℕ) → lentWell n Unopened 64 256 384 (length out) ≡ false → OverLine n out out 0
-unfolding overText
-over-refused n out e = record { bytes = rw e; answer = rw e (sym (over-none out)) }
+pub heldLine-long : (x : List ℕ) (n : ℕ) → length x < n → longestLine < length (heldLine x n)
+unfolding heldLine
+heldLine-long x n h = rw (lt-ltb (length x) n h) (omega (arith, length-replicate {A = ℕ} (suc longestLine) 0))
 
--- it is what the entry answers to any line that is too long
-formed-long : (s : List ℕ) → longestLine < length s → formOf s ≡ F.Bad longestLine
-formed-long s h = formOf-long s h
+-- judging the part of the buffer where the line is
+pub judged-held : (x : List ℕ) (n : ℕ) {o y : List ℕ} {r : LineForm} → n ≤ length x → Judged (take (n - 0) x) o y r → Judged (heldLine x n) o y r
+judged-held x n {o} {y} {r} h j = subst (λ (l : List ℕ). Judged l o y r) (ap (λ (k : ℕ). take k x) (sub-zero n) ∙ sym (heldLine-within x n h)) j
 
-long-deed : (vs : List ℕ) (session : Session) (ts ps : List ℕ) (n c : ℕ) → deedOf (F.Bad c) vs session ts ps n .answer ≡ Refused 14
-unfolding deedOf unopenedDeed openOutcome
-long-deed vs Unopened ts ps n c = refl
-long-deed vs (Open T P) ts ps n c = refl
+-- the reply to a whole buffer is the entry of what it holds
+pub replied-whole : (x : List ℕ) (n : ℕ) (session : Session) (ts ps rs out : List ℕ) {r : Entered} {ts′ ps′ rs′ out′ : List ℕ}
+    → Enters (replyOf x (length x) n session ts ps rs out) r ts′ ps′ rs′ out′ → Enters (entryOf x n session ts ps rs out) r ts′ ps′ rs′ out′
+replied-whole x n session ts ps rs out {r} {ts′} {ps′} {rs′} {out′} e =
+    subst (λ (l : List ℕ). Enters (entryOf l n session ts ps rs out) r ts′ ps′ rs′ out′) (heldLine-whole x) e
 
-pub over-is-the-entry : (s : List ℕ) → longestLine < length s → (n m : ℕ) (session : Session) (ts ps rs : List ℕ)
-    → answerText n (deedOf (formOf s) (entriesOf s) session ts ps m .answer) rs ≡ answerText n (Refused 14) []
-over-is-the-entry s h n m session ts ps rs =
-    ap (λ (a : Answer). answerText n a rs) (ap (λ (f : LineForm). deedOf f (entriesOf s) session ts ps m .answer) (formed-long s h) ∙ long-deed (entriesOf s) session ts ps m longestLine)
-    ∙ refused-text n 14 rs
+-- ALL LINES THAT ARE TOO LONG HAVE ONE ENTRY
+pub long-lines-alike : (s t : List ℕ) → longestLine < length s → longestLine < length t → (n : ℕ) (session : Session) (ts ps rs out : List ℕ)
+    → entryOf s n session ts ps rs out ≡ entryOf t n session ts ps rs out
+unfolding entryOf
+long-lines-alike s t h k n session ts ps rs out = rw (formOf-long s h, formOf-long t k, entriesOf-long s h, entriesOf-long t k)

@@ -7,14 +7,15 @@
 --   openOutcome f vs n s         its outcome in an open session, on the tables s
 --   deedOf f vs session ts ps n  what it does
 --   Entry, entryOf ..            the number, the session value, both tables, the report, the answer line and its length after a line
+--   heldLine x n                 the line that a buffer x gathered, of which n bytes were counted; replyOf x n is its entry
 --   Enters ..                    a call answered and left these
 -- Assumes nothing.
-use Prim.Native.Nat.{ℕ}
+use Prim.Native.Nat.{ℕ, suc}
 use mathlib.Core.Path.{_≡_}
 use mathlib.Core.List.{List, [], _∷_, _++_}
 use mathlib.Core.Bool.{Bool, true, cond, _&&_}
-use lib.Dec.{eqb, leb}
-use lib.ListN.{length, take, drop}
+use lib.Dec.{eqb, leb, ltb}
+use lib.ListN.{length, take, drop, replicate}
 use Rattle.words.specs.Words.{small, sizesInBounds}
 use Rattle.words.specs.Lists.{over}
 use Rattle.rules.specs.Tables.{Tables, tables, fresh}
@@ -24,6 +25,7 @@ use Rattle.rules.specs.declared.Answer.{Answer}
 use Rattle.rules.specs.declared.Answer.the-variants.{Opened, Refused}
 use Rattle.forms.specs.declared.Form.{Form}
 use Rattle.forms.specs.declared.Form.the-variants as F
+use Rattle.forms.specs.Forms.{longestLine}
 use Rattle.forms.specs.Judging.{formOf, entriesOf}
 use Rattle.answers.specs.AnswerText.{answerText, longestAnswer}
 use Rattle.lines.specs.declared.Session.{Session}
@@ -129,6 +131,14 @@ unfoldable pub entryOf : List ℕ → ℕ → Session → List ℕ → List ℕ 
 entryOf line n session ts ps rs out =
     cond (lentWell n session (length ts) (length ps) (length rs) (length out)) (entered n rs out (deedOf (formOf line) (entriesOf line) session ts ps (length rs))) (notEntered session ts ps rs out)
 
+-- A line that a buffer x gathered, of which n bytes were counted. Of one that the buffer has no room for any line that is too long will do, for all of them have one
+-- answer: "passes over the rest of a longer line (one refusal 14)".
+unfoldable pub heldLine : List ℕ → ℕ → List ℕ
+heldLine x n = cond (ltb (length x) n) (replicate (suc longestLine) 0) (take n x)
+
+abbrev pub replyOf : List ℕ → ℕ → ℕ → Session → List ℕ → List ℕ → List ℕ → List ℕ → Entry
+replyOf x n = entryOf (heldLine x n)
+
 pub record Enters (e : Entry) (r : Entered) (ts ps rs out : List ℕ) : Type 0 where
   pub number : r .number ≡ e .number
   pub session : r .session ≡ e .session
@@ -152,11 +162,3 @@ pub record InPart (o : Outcome) (T P : ℕ) (ts ps rs : List ℕ) (a : Answer) (
   pub tasks : ts′ ≡ o .after .tasks ++ drop T ts
   pub promises : ps′ ≡ o .after .promises ++ drop P ps
   pub report : rs′ ≡ over (o .words) rs
-
--- "passes over the rest of a longer line (one refusal 14)": the answer to a line that is too long, whatever it held and whatever the session is
-unfoldable pub overText : ℕ → ℕ → List ℕ
-overText n room = cond (lentWell n Unopened 64 256 384 room) (answerText n (Refused 14) []) []
-
-pub record OverLine (n : ℕ) (out out′ : List ℕ) (r : ℕ) : Type 0 where
-  pub bytes : r ≡ length (overText n (length out))
-  pub answer : out′ ≡ over (overText n (length out)) out

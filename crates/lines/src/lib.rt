@@ -19,8 +19,8 @@ ghost use Prim.Native.Nat.{_≤_};
 ghost use lib.ListN.{length, take};
 ghost use Rattle.rules.specs.Tables.{tables as tablesOf};
 ghost use Rattle.rules.specs.Contracts.{Gives};
-ghost use Rattle.forms.specs.Judging.{countIn, formOf, entriesOf};
-ghost use Rattle.lines.specs.Lines.{inSession, lentWell, unopenedDeed, openDeed, openOutcome, deedOf, entered, entryOf, Enters, Does, InPart, OverLine};
+ghost use Rattle.forms.specs.Judging.{countIn, formOf, entriesOf, Judged};
+ghost use Rattle.lines.specs.Lines.{inSession, lentWell, unopenedDeed, openDeed, openOutcome, deedOf, entered, heldLine, entryOf, replyOf, Enters, Does, InPart};
 
 // The session value: unopened, or the numbers of tasks and promises of the session.
 pub enum Session {
@@ -178,9 +178,20 @@ fn act(
     }
 }
 
-// The entry, where all that is lent is as it must be, and `list` has room for the entries of an async's list.
+// The form of the line that the buffer gathered, of which `have` bytes were counted.
+fn judge_held(line: &[u8], have: usize, list: &mut [u16]) -> Form
+    ensures { λ r. ⌜ Judged (heldLine (now (line .entry)) have) (now (list .entry)) (now (list .exit)) r ⌝ }
+{
+    if line.len() < have {
+        return Form::Bad(Form::LONGEST);
+    }
+    judge(&line[0..have], list)
+}
+
+// The reply, where all that is lent is as it must be, and `list` has room for the entries of an async's list.
 fn answer_line(
     line: &[u8],
+    have: usize,
     number: u32,
     session: Session,
     list: &mut [u16],
@@ -190,9 +201,9 @@ fn answer_line(
     answer: &mut [u8],
 ) -> Entered
     requires { ⌜ (lentWell number session (length (now tasks)) (length (now promises)) (length (now report)) (length (now answer)) ≡ true) × (1024 ≤ length (now list)) ⌝ }
-    ensures { λ r. ⌜ Enters (entered number (now (report .entry)) (now (answer .entry)) (deedOf (formOf (now (line .entry))) (entriesOf (now (line .entry))) session (now (tasks .entry)) (now (promises .entry)) (length (now (report .entry))))) r (now (tasks .exit)) (now (promises .exit)) (now (report .exit)) (now (answer .exit)) ⌝ }
+    ensures { λ r. ⌜ Enters (entered number (now (report .entry)) (now (answer .entry)) (deedOf (formOf (heldLine (now (line .entry)) have)) (entriesOf (heldLine (now (line .entry)) have)) session (now (tasks .entry)) (now (promises .entry)) (length (now (report .entry))))) r (now (tasks .exit)) (now (promises .exit)) (now (report .exit)) (now (answer .exit)) ⌝ }
 {
-    let form = judge(line, list);
+    let form = judge_held(line, have, list);
     let done = act(form, list, session, tasks, promises, report);
     let told = done.answer;
     let next = done.session;
@@ -204,9 +215,10 @@ fn answer_line(
     }
 }
 
-// The line entry: takes a line without its LF, and writes one answer line.
-pub fn enter(
+// The answer to a line that the buffer `line` gathered, without its LF. `have` of its bytes were counted: more than the buffer holds say that the line is too long.
+pub fn reply(
     line: &[u8],
+    have: usize,
     number: u32,
     session: Session,
     tasks: &mut [u16],
@@ -214,7 +226,7 @@ pub fn enter(
     report: &mut [u16],
     answer: &mut [u8],
 ) -> Entered
-    ensures { λ r. ⌜ Enters (entryOf (now (line .entry)) number session (now (tasks .entry)) (now (promises .entry)) (now (report .entry)) (now (answer .entry))) r (now (tasks .exit)) (now (promises .exit)) (now (report .exit)) (now (answer .exit)) ⌝ }
+    ensures { λ r. ⌜ Enters (replyOf (now (line .entry)) have number session (now (tasks .entry)) (now (promises .entry)) (now (report .entry)) (now (answer .entry))) r (now (tasks .exit)) (now (promises .exit)) (now (report .exit)) (now (answer .exit)) ⌝ }
 {
     if lent_well(
         number,
@@ -228,6 +240,7 @@ pub fn enter(
         let mut list = [0; 1024];
         return answer_line(
             line,
+            have,
             number,
             session,
             &mut list,
@@ -244,14 +257,26 @@ pub fn enter(
     }
 }
 
-// The answer to a line that is longer than 2,048 bytes, of which only the line number is known: how many bytes were written, and 0 where the line number or the
-// room for the answer is not as it must be.
-pub fn line_over(number: u32, answer: &mut [u8]) -> usize
-    ensures { λ r. ⌜ OverLine number (now (answer .entry)) (now (answer .exit)) r ⌝ }
+// The line entry: takes a line without its LF, and writes one answer line.
+pub fn enter(
+    line: &[u8],
+    number: u32,
+    session: Session,
+    tasks: &mut [u16],
+    promises: &mut [u16],
+    report: &mut [u16],
+    answer: &mut [u8],
+) -> Entered
+    ensures { λ r. ⌜ Enters (entryOf (now (line .entry)) number session (now (tasks .entry)) (now (promises .entry)) (now (report .entry)) (now (answer .entry))) r (now (tasks .exit)) (now (promises .exit)) (now (report .exit)) (now (answer .exit)) ⌝ }
 {
-    if lent_well(number, Session::Unopened, 64, 256, 384, answer.len()) {
-        let report = [0; 1];
-        return put_answer(answer, number, Answer::Refused(14), &report);
-    }
-    0
+    reply(
+        line,
+        line.len(),
+        number,
+        session,
+        tasks,
+        promises,
+        report,
+        answer,
+    )
 }

@@ -9,8 +9,10 @@ use mathlib.Core.Path.{_≡_, refl, ap, sym, _∙_}
 use native.Mathlib.Omega.{arith}
 use borrow.Author.Tests.{lt-ltb, le-ltb, ltb-true}
 use lib.ListN.{length, drop, set, length-append, drop-of-length-le}
-use Rattle.buffers.specs.Buffers.{over, fitting}
-use Rattle.buffers.proofs.BufferLaws.{over-none, over-length, over-fitting-snoc, fitting-none, fitting-most}
+use Rattle.words.specs.Lists.{over}
+use Rattle.buffers.specs.Buffers.{fitting}
+use Rattle.words.proofs.ListLaws.{over-none, over-length}
+use Rattle.buffers.proofs.BufferLaws.{over-fitting-snoc, fitting-none, fitting-most}
 use Rattle.records.specs.Records.{numberAt}
 use Rattle.records.specs.declared.Numbered.{Numbered}
 use Rattle.records.specs.declared.Numbered.the-variants as S

@@ -1,5 +1,6 @@
 use mathlib.Core.Path.{refl}
 use lib.ListN.{length}
+use Rattle.lines.specs.Lines.{heldLine}
 use Rattle.forms.specs.Judging.{formOf, entriesOf}
 use Rattle.lines.proofs.LineLaws.{lentWell-true, judged-count, deed-read, deed-fits, enters-of}
 use native.Mathlib.Omega.{arith}
@@ -10,16 +11,16 @@ use Rattle.lines.proofs.answer_line.Tie as tie
 use Rattle.lines.proofs.answer_line.Reads as reads
 use Rattle.lines.proofs.answer_line.Lts as lts
 use Rattle.answers.proofs.put_answer.Reads as put-answer-reads
-use Rattle.forms.proofs.judge.Reads as judge-reads
+use Rattle.lines.proofs.judge_held.Reads as judge-held-reads
 use Rattle.lines.proofs.act.Reads as act-reads
 
 -- src/lib.rt:196:9
-judge-requires : tie.Need-judge-requires
-judge-requires c κs = search needs
+judge-held-requires : tie.Need-judge-held-requires
+judge-held-requires c κs = search needs
 
 -- src/lib.rt:197:9
 act-requires : tie.Need-act-requires
-act-requires c κs = let w = lentWell-true _ _ _ _ _ _ (c .before .before .before .before .before .before .before .before .before .before .before .before .before .before .pre .0) in (judged-count _ _ _ _ (c .before .before .before .before .before .before .judge .ensures) (c .before .before .before .before .before .before .before .before .before .before .before .before .before .before .pre .1), w .session-is, w .tasks-are, w .promises-are)
+act-requires c κs = let w = lentWell-true _ _ _ _ _ _ (c .before .before .before .before .before .before .before .before .before .before .before .before .before .before .pre .0) in (judged-count _ _ _ _ (c .before .before .before .before .before .before .judge-held .ensures) (c .before .before .before .before .before .before .before .before .before .before .before .before .before .before .pre .1), w .session-is, w .tasks-are, w .promises-are)
 
 -- src/lib.rt:200:9
 put-answer-requires : tie.Need-put-answer-requires
@@ -50,16 +51,16 @@ returns : tie.Need-returns
 returns c =
     let a = c .before .before .before .before .before .before .before .before .before .before .before .before .before .before .before .before .before .before .before .before .before .before .before .before .before .before .args in
     let w = lentWell-true _ _ _ _ _ _ (c .before .before .before .before .before .before .before .before .before .before .before .before .before .before .before .before .before .before .before .before .before .before .before .before .before .before .pre .0) in
-    let fit = deed-fits (formOf (a .line .now)) (entriesOf (a .line .now)) (a .session) (a .tasks .now) (a .promises .now) (a .report .now) (length (a .report .now)) (a .number) (w .most) in
+    let fit = deed-fits (formOf (heldLine (a .line .now) (a .have))) (entriesOf (heldLine (a .line .now) (a .have))) (a .session) (a .tasks .now) (a .promises .now) (a .report .now) (length (a .report .now)) (a .number) (w .most) in
     enters-of (a .number) (a .report .now) (a .answer .now)
-    (deed-read (a .line .now) (a .list .now) _ _ (a .session) (a .tasks .now) (a .promises .now) (length (a .report .now)) (c .before .before .before .before .before .before .before .before .before .before .before .before .before .before .before .before .before .before .judge .ensures) (c .before .before .before .before .before .before .before .before .before .before .before .before .before .before .before .before .before .before .before .before .before .before .before .before .before .before .pre .1)) (c .before .before .before .before .before .before .before .before .before .before .before .act .ensures)
+    (deed-read (heldLine (a .line .now) (a .have)) (a .list .now) _ _ (a .session) (a .tasks .now) (a .promises .now) (length (a .report .now)) (c .before .before .before .before .before .before .before .before .before .before .before .before .before .before .before .before .before .before .judge-held .ensures) (c .before .before .before .before .before .before .before .before .before .before .before .before .before .before .before .before .before .before .before .before .before .before .before .before .before .before .pre .1)) (c .before .before .before .before .before .before .before .before .before .before .before .act .ensures)
     (omega (arith, fit, w .room)) (c .before .before .put-answer .ensures) refl refl
 
 pub answer-line-spec : {M : Type 1} → statement M
 answer-line-spec =
     tie.close
     (tie.spec
-    judge-requires
+    judge-held-requires
     act-requires
     put-answer-requires
     same-length

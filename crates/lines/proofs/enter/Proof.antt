@@ -1,63 +1,37 @@
-use mathlib.Core.Path.{refl, sym, _∙_}
-use Rattle.lines.specs.Lines.{entryOf}
+use Rattle.lines.proofs.LineLaws.{replied-whole}
 use native.Mathlib.Omega.{arith}
-use Rattle.words.proofs.Tests.{tests}
 use borrow.Author.Needs.{needs}
 use Rattle.lines.proofs.enter.Statement.{statement}
 use Rattle.lines.proofs.enter.Tie as tie
 use Rattle.lines.proofs.enter.Reads as reads
 use Rattle.lines.proofs.enter.Lts as lts
-use Rattle.lines.proofs.answer_line.Reads as answer-line-reads
-use Rattle.lines.proofs.lent_well.Reads as lent-well-reads
+use Rattle.lines.proofs.reply.Reads as reply-reads
 
--- src/lib.rt:220:8
-lent-well-requires : tie.Need-lent-well-requires
-lent-well-requires c κs = search needs
+-- src/lib.rt:272:5
+reply-requires : tie.Need-reply-requires
+reply-requires c κs = search needs
 
--- src/lib.rt:234:13
-slice-aggregate-answer-line : tie.Need-slice-aggregate-answer-line
-slice-aggregate-answer-line c = search needs
-
--- src/lib.rt:230:9
-answer-line-requires : tie.Need-answer-line-requires
-answer-line-requires c κs = (sym (c .before .before .before .before .before .before .lent-well .ensures) ∙ c .before .before .before .before .before .if1 .taken, search needs)
-
--- src/lib.rt:230:9
+-- src/lib.rt:261:1
 same-length : tie.Need-same-length
 same-length c = search needs
 
--- src/lib.rt:230:9
+-- src/lib.rt:261:1
 same-length-2 : tie.Need-same-length-2
 same-length-2 c = search needs
 
--- src/lib.rt:230:9
+-- src/lib.rt:261:1
 same-length-3 : tie.Need-same-length-3
 same-length-3 c = search needs
 
--- src/lib.rt:230:9
+-- src/lib.rt:261:1
 same-length-4 : tie.Need-same-length-4
 same-length-4 c = search needs
 
--- src/lib.rt:230:9
+-- src/lib.rt:261:1
 returns : tie.Need-returns
-unfolding entryOf
-returns c = rw (← c .before .before .before .before .before .before .before .before .before .before .before .before .before .before .before .before .lent-well .ensures, c .before .before .before .before .before .before .before .before .before .before .before .before .before .before .before .if1 .taken) (c .before .before .before .before .before .before .before .before .before .answer-line .ensures)
-
--- src/lib.rt:209:1
-returns-2 : tie.Need-returns-2
-unfolding entryOf
-returns-2 c = rw (← c .before .lent-well .ensures, c .if1 .left) (record { number = refl; session = refl; bytes = refl; tasks = refl; promises = refl; report = refl; answer = refl })
+returns c = let a = c .before .before .before .before .before .before .before .before .before .before .before .before .before .before .before .before .before .before .args in replied-whole (a .line .now) (a .number) (a .session) (a .tasks .now) (a .promises .now) (a .report .now) (a .answer .now) (c .before .before .before .before .before .before .before .before .reply .ensures)
 
 pub enter-spec : {M : Type 1} → statement M
 enter-spec =
     tie.close
-    (tie.spec
-    lent-well-requires
-    slice-aggregate-answer-line
-    answer-line-requires
-    same-length
-    same-length-2
-    same-length-3
-    same-length-4
-    returns
-    returns-2)
+    (tie.spec reply-requires same-length same-length-2 same-length-3 same-length-4 returns)
