@@ -38,7 +38,7 @@ use Rattle.lines.specs.declared.Session.{Session}
 use Rattle.lines.specs.declared.Session.the-variants.{Unopened, Open}
 use Rattle.lines.specs.declared.Done.{Done}
 use Rattle.lines.specs.declared.Entered.{Entered}
-use Rattle.lines.specs.Lines.{Deed, refusedBy, opened, openDeed, unopenedDeed, openOutcome, deedOf, inSession, lentWell, entered, Entry, Enters, Does, InPart, heldLine, entryOf, replyOf}
+use Rattle.lines.specs.Lines.{Deed, refusedBy, opened, openDeed, unopenedDeed, openOutcome, deedOf, inSession, lentWell, entered, notEntered, Entry, Enters, Does, InPart, heldLine, entryOf, replyOf}
 
 -- what was done to the parts that were lent was done to the first words of the tables
 pub inPart-of : (T P : ℕ) (ts ps : List ℕ) {o : Outcome} {rs pt pp rs′ : List ℕ} {a : Answer} → Gives o rs a pt pp rs′ → InPart o T P ts ps rs a (pt ++ drop T ts) (pp ++ drop P ps) rs′
@@ -220,6 +220,20 @@ deed-fits (F.Get t p) vs (Open T P) ts ps rs m n h = step-answer-fits n m (table
 deed-fits (F.Async t c k) vs (Open T P) ts ps rs m n h = step-answer-fits n m (tables (take T ts) (take P ps)) (step-async t c vs) rs h
 deed-fits (F.End t) vs (Open T P) ts ps rs m n h = step-answer-fits n m (tables (take T ts) (take P ps)) (step-end t) rs h
 deed-fits (F.Bad c) vs (Open T P) ts ps rs m n h = refused-fits n 14 (over [] rs) h (omega arith)
+
+-- EVERY ANSWER LINE FITS INTO WHAT WAS LENT FOR IT
+pub entry-within : (line : List ℕ) (n : ℕ) (session : Session) (ts ps rs out : List ℕ) → entryOf line n session ts ps rs out .bytes ≤ length out
+unfolding entryOf
+entry-within line n session ts ps rs out = go (lentWell n session (length ts) (length ps) (length rs) (length out)) refl
+  where
+    d : Deed
+    d = deedOf (formOf line) (entriesOf line) session ts ps (length rs)
+
+    go : (b : Bool) → lentWell n session (length ts) (length ps) (length rs) (length out) ≡ b → cond b (entered n rs out d) (notEntered session ts ps rs out) .bytes ≤ length out
+    go true e =
+        let w = lentWell-true n session (length ts) (length ps) (length rs) (length out) e in
+        omega (arith, deed-fits (formOf line) (entriesOf line) session ts ps rs (length rs) n (w .most), w .room)
+    go false e = omega arith
 
 -- what was done and what was written make the entry
 pub enters-of : (n : ℕ) (rs out : List ℕ) {d d′ : Deed} {x : Done} {e : Entered} {ts ps rs′ out′ : List ℕ} → d ≡ d′ → Does d rs x ts ps rs′
