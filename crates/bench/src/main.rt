@@ -1,17 +1,14 @@
 // The program: reads lines from standard input and prints one answer line each. Paper: 01, "Lines", the program `bench`.
-// It reads blocks, gathers each line into the line buffer, and has its answer written straight after the answers that wait in the output
-// array. These are put out where less than an answer line's room is left and before every read, so that a partner on a pipe
-// is never left waiting. What is written to standard output is held to stdout, and not proved.
-use gather::Got;
-use gather::Numbering;
-use lines::Entered;
+// It reads blocks and has each line's answer written straight after the answers that wait in the output array. These are put out where less than an answer
+// line's room is left and before every read, so that a partner on a pipe is never left waiting. What is decided about lines stands in the crate serving; what is
+// written to standard output is held to stdout, and not proved.
 use lines::Session;
 ghost use mathlib.Core.Path.{_≡_};
 ghost use Prim.Native.Nat.{_+_, _≤_, _<_};
 ghost use lib.ListN.{length};
 
-// Where the program is: the place in the block, how many bytes of the line there are in the line buffer, how many lines were answered, the
-// session value, how many bytes wait in the output array, and whether the program goes on.
+// Where the program is: the place in the block, how many bytes of the line that has begun were counted, how many lines were answered, the session value, how many
+// bytes wait in the output array, and whether the program goes on.
 pub struct State {
     pub from: usize,
     pub have: usize,
@@ -33,38 +30,6 @@ fn start() -> State
         used: 0,
         going: true,
     }
-}
-
-// Writes the answer line of a line of which `have` bytes were counted: of a longer one than the line buffer holds, refusal 14.
-fn reply(
-    line: &[u8],
-    have: usize,
-    number: u32,
-    session: Session,
-    tasks: &mut [u16],
-    promises: &mut [u16],
-    report: &mut [u16],
-    answer: &mut [u8],
-) -> Entered
-    ensures { λ r. ⌜ r .bytes ≤ length (now (answer .entry)) ⌝ }
-{
-    if line.len() < have {
-        let bytes = lines::line_over(number, answer);
-        return Entered {
-            number: 0,
-            session,
-            bytes,
-        };
-    }
-    lines::enter(
-        &line[0..have],
-        number,
-        session,
-        tasks,
-        promises,
-        report,
-        answer,
-    )
 }
 
 // Puts out the answers that wait. The program ends where the output is closed.
@@ -99,80 +64,6 @@ fn with_room(out: &[u8], s: State) -> State
     s
 }
 
-// Answers the line `number`, of which `have` bytes were counted; the next one starts at `next`.
-fn add_reply(
-    line: &[u8],
-    have: usize,
-    number: u32,
-    next: usize,
-    tasks: &mut [u16],
-    promises: &mut [u16],
-    report: &mut [u16],
-    out: &mut [u8],
-    s: State,
-) -> State
-    requires { ⌜ (s .used ≤ length (now out)) × (length (now out) ≡ 32768) ⌝ }
-    ensures { λ r. ⌜ (r .from ≡ next) × (r .used ≤ length (now (out .entry))) ⌝ }
-{
-    let w = with_room(out, s);
-    let used = w.used;
-    let before = w.session;
-    let e = reply(
-        line,
-        have,
-        number,
-        before,
-        tasks,
-        promises,
-        report,
-        &mut out[used..],
-    );
-    let session = e.session;
-    State {
-        from: next,
-        have: 0,
-        lines: number,
-        session,
-        used: used + e.bytes,
-        going: w.going,
-    }
-}
-
-// The block ended, of `end` bytes: `have` bytes of a line were counted.
-fn to_end(end: usize, have: usize, s: State) -> State
-    ensures { λ r. ⌜ (r .from ≡ end) × (r .used ≡ s .used) ⌝ }
-{
-    let session = s.session;
-    State {
-        from: end,
-        have,
-        lines: s.lines,
-        session,
-        used: s.used,
-        going: s.going,
-    }
-}
-
-// The millionth line is there: puts out the answers that wait and says so, and the program stops.
-fn full(end: usize, out: &[u8], s: State) -> State
-    requires { ⌜ s .used ≤ length (now out) ⌝ }
-    ensures { λ r. ⌜ (r .from ≡ end) × (r .used ≡ 0) ⌝ }
-{
-    let w = put_out(out, s);
-    if w.going {
-        io::write_all(1, b"full\n");
-    }
-    let session = w.session;
-    State {
-        from: end,
-        have: 0,
-        lines: w.lines,
-        session,
-        used: 0,
-        going: false,
-    }
-}
-
 // One line of the block, or what there is of it.
 fn serve_line(
     block: &[u8],
@@ -181,26 +72,54 @@ fn serve_line(
     promises: &mut [u16],
     report: &mut [u16],
     out: &mut [u8],
-    s: State,
+    was: State,
 ) -> State
-    requires { ⌜ (s .from < length (now block)) × (s .used ≤ length (now out)) × (length (now out) ≡ 32768) ⌝ }
-    ensures { λ r. ⌜ (s .from < r .from) × (r .from ≤ length (now (block .entry))) × (r .used ≤ length (now (out .entry))) ⌝ }
+    requires { ⌜ (was .from < length (now block)) × (was .used ≤ length (now out)) × (length (now out) ≡ 32768) ⌝ }
+    ensures { λ r. ⌜ (was .from < r .from) × (r .from ≤ length (now (block .entry))) × (r .used ≤ length (now (out .entry))) ⌝ }
 {
-    let after = gather::number_after(s.lines);
-    match after {
-        Numbering::Line(n) => {
-            let got = gather::gather(line, s.have, block, s.from);
-            match got {
-                Got::Line(k, next) => add_reply(line, k, n, next, tasks, promises, report, out, s),
-                Got::More(k) => to_end(block.len(), k, s),
-            }
-        }
-        Numbering::Full => full(block.len(), out, s),
+    let s = with_room(out, was);
+    let used = s.used;
+    let before = s.session;
+    let served = serving::serve(
+        block,
+        s.from,
+        line,
+        s.have,
+        s.lines,
+        before,
+        tasks,
+        promises,
+        report,
+        &mut out[used..],
+    );
+    let session = served.session;
+    State {
+        from: served.next,
+        have: served.have,
+        lines: served.lines,
+        session,
+        used: used + served.bytes,
+        going: s.going & served.going,
+    }
+}
+
+// The same place in a new block: its start.
+fn at_start(s: State) -> State
+    ensures { λ r. ⌜ (r .from ≡ 0) × (r .used ≡ s .used) ⌝ }
+{
+    let session = s.session;
+    State {
+        from: 0,
+        have: s.have,
+        lines: s.lines,
+        session,
+        used: s.used,
+        going: s.going,
     }
 }
 
 // Every line of a block.
-fn serve(
+fn serve_block(
     block: &[u8],
     line: &mut [u8],
     tasks: &mut [u16],
@@ -212,7 +131,7 @@ fn serve(
     requires { ⌜ (was .used ≤ length (now out)) × (length (now out) ≡ 32768) ⌝ }
     ensures { λ r. ⌜ r .used ≤ length (now (out .entry)) ⌝ }
 {
-    let mut s = to_end(0, was.have, was);
+    let mut s = at_start(was);
     while s.from < block.len() {
         if !s.going {
             return s;
@@ -222,9 +141,9 @@ fn serve(
     s
 }
 
-// A last line without LF.
+// The input ended. A last line without LF is served as if it had one.
 fn finish(
-    line: &[u8],
+    line: &mut [u8],
     tasks: &mut [u16],
     promises: &mut [u16],
     report: &mut [u16],
@@ -233,18 +152,9 @@ fn finish(
 )
     requires { ⌜ (s .used ≤ length (now out)) × (length (now out) ≡ 32768) ⌝ }
 {
-    if !gather::is_last(s.have) {
-        return;
-    }
-    let after = gather::number_after(s.lines);
-    match after {
-        Numbering::Line(n) => {
-            let last = add_reply(line, s.have, n, 0, tasks, promises, report, out, s);
-            put_out(out, last);
-        }
-        Numbering::Full => {
-            full(0, out, s);
-        }
+    if gather::is_last(s.have) {
+        let last = serve_block(b"\n", line, tasks, promises, report, out, s);
+        put_out(out, last);
     }
 }
 
@@ -273,7 +183,7 @@ fn run(
             finish(line, tasks, promises, report, out, s);
             return;
         }
-        s = serve(&block[0..n], line, tasks, promises, report, out, s);
+        s = serve_block(&block[0..n], line, tasks, promises, report, out, s);
     }
 }
 

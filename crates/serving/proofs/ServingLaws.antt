@@ -46,7 +46,7 @@ module _ (b : List ℕ) (from : ℕ) (x : List ℕ) (have lines : ℕ) (session 
   turn-full e = rw e
 
   -- each turn goes on in the block, and stays within it
-  pub turn-on : from < length b → (from < turnOf b from x have lines session ts ps rs out .next) × (turnOf b from x have lines session ts ps rs out .next ≤ length b)
+  turn-on : from < length b → (from < turnOf b from x have lines session ts ps rs out .next) × (turnOf b from x have lines session ts ps rs out .next ≤ length b)
   unfolding turnOf numbered brought gotOf
   turn-on h = go (numberAfter lines)
     where
@@ -62,7 +62,7 @@ module _ (b : List ℕ) (from : ℕ) (x : List ℕ) (have lines : ℕ) (session 
       go N.Full = (h, omega arith)
 
   -- what a turn writes fits into what was lent for it
-  pub turn-within : turnOf b from x have lines session ts ps rs out .bytes ≤ length out
+  turn-within : turnOf b from x have lines session ts ps rs out .bytes ≤ length out
   unfolding turnOf numbered brought
   turn-within = go (numberAfter lines)
     where
@@ -73,6 +73,13 @@ module _ (b : List ℕ) (from : ℕ) (x : List ℕ) (have lines : ℕ) (session 
       go : (m : Numbering) → numbered b from x have lines session ts ps rs out m .bytes ≤ length out
       go (N.Line n) = brings n (gotOf (length x) have b from)
       go N.Full = fitting-most fullText out
+
+  module _ {q : Served} {y ts′ ps′ rs′ out′ : List ℕ} (s : Serves (turnOf b from x have lines session ts ps rs out) q y ts′ ps′ rs′ out′) where
+    pub served-on : from < length b → (from < q .next) × (q .next ≤ length b)
+    served-on h = let (l, k) = turn-on h in (rw (s .next) l, rw (s .next) k)
+
+    pub served-within : q .bytes ≤ length out
+    served-within = rw (s .bytes) turn-within
 
   module _ (n : ℕ) (e : numberAfter lines ≡ N.Line n) where
     pub turn-more : (k : ℕ) → gotOf (length x) have b from ≡ G.More k → turnOf b from x have lines session ts ps rs out ≡ wentOn b from x have lines session ts ps rs out k

@@ -77,17 +77,17 @@ same-length-12 c = search needs
 returns-2 : tie.Need-returns-2 Inv-loop μ-loop
 returns-2 c = search needs
 
-sub-serve : tie.Need-sub-serve Inv-loop μ-loop
-sub-serve c = search needs
+sub-serve-block : tie.Need-sub-serve-block Inv-loop μ-loop
+sub-serve-block c = search needs
 
-part-serve-start : tie.Need-part-serve-start Inv-loop μ-loop
-part-serve-start c = search needs
+part-serve-block-start : tie.Need-part-serve-block-start Inv-loop μ-loop
+part-serve-block-start c = search needs
 
-part-serve-end : tie.Need-part-serve-end Inv-loop μ-loop
-part-serve-end c = search needs
+part-serve-block-end : tie.Need-part-serve-block-end Inv-loop μ-loop
+part-serve-block-end c = search needs
 
-serve-requires : tie.Need-serve-requires Inv-loop μ-loop
-serve-requires c κs = search needs
+serve-block-requires : tie.Need-serve-block-requires Inv-loop μ-loop
+serve-block-requires c κs = search needs
 
 loop-less : tie.Need-loop-less Inv-loop μ-loop
 loop-less c = search needs
@@ -98,12 +98,12 @@ loop-again c =
     let r = w .before .before .before .before .before .before .before .before .before .before .before .before .before in
     let h = r .before .before .before .before .before .before .before .loop .inv in (
       r .read .kept .1 .0 ∙ h .0,
-      w .serve .kept .1 .0 ∙ h .1,
-      w .serve .kept .1 .1 .0 ∙ h .2,
-      w .serve .kept .1 .1 .1 .0 ∙ h .3,
-      w .serve .kept .1 .1 .1 .1 .0 ∙ h .4,
-      w .serve .kept .1 .1 .1 .1 .1 .0 ∙ h .5,
-      subst (λ (n : ℕ). w .serve .result .used ≤ n) (h .5) (w .serve .ensures),
+      w .serve-block .kept .1 .0 ∙ h .1,
+      w .serve-block .kept .1 .1 .0 ∙ h .2,
+      w .serve-block .kept .1 .1 .1 .0 ∙ h .3,
+      w .serve-block .kept .1 .1 .1 .1 .0 ∙ h .4,
+      w .serve-block .kept .1 .1 .1 .1 .1 .0 ∙ h .5,
+      subst (λ (n : ℕ). w .serve-block .result .used ≤ n) (h .5) (w .serve-block .ensures),
     )
 
 same-length-13 : tie.Need-same-length-13 Inv-loop μ-loop
@@ -154,10 +154,10 @@ run-spec =
     same-length-11
     same-length-12
     returns-2
-    sub-serve
-    part-serve-start
-    part-serve-end
-    serve-requires
+    sub-serve-block
+    part-serve-block-start
+    part-serve-block-end
+    serve-block-requires
     loop-less
     loop-again
     same-length-13

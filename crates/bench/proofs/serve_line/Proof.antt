@@ -1,91 +1,92 @@
--- `serve_line` meets its contract: a line that ends in the block ends further on in it; otherwise the block's end is the place.
+-- `serve_line` meets its contract: what was lent is the rest of the output array, so the answer ends within it.
 -- Assumes nothing.
-use Rattle.bench.proofs.BenchLaws.{gathered-on}
+use Prim.Native.Nat.{_+_, _-_, _≤_, _<_}
+use lib.ListN.{length, take, drop}
+use Rattle.serving.proofs.ServingLaws.{served-on, served-within}
+use Rattle.bench.proofs.BenchLaws.{added-within}
+use native.Mathlib.Omega.{arith}
+use native.Mathlib.Omega.{arith}
 use borrow.Author.Needs.{needs}
 use Rattle.bench.proofs.serve_line.Statement.{statement}
 use Rattle.bench.proofs.serve_line.Tie as tie
+use Rattle.bench.proofs.serve_line.Reads as reads
+use Rattle.bench.proofs.serve_line.Lts as lts
+use Rattle.bench.proofs.with_room.Reads as with-room-reads
+use Rattle.serving.proofs.serve.Reads as serve-reads
 
-number-after-requires : tie.Need-number-after-requires
-number-after-requires c κs = search needs
+facts : (c : tie.After-struct-known) → let r = c .before .before .before .before .before .before .before .before .before .before .before in let w = c .before .before .before .before .before .before .before .before .before .before .before .before .before .before .before .before .before in let a = c .before .before .before .before .before .before .before .before .before .before .before .before .before .before .before .before .before .before .before .before .before .before .before .before .before .args in
+    (a .was .from < r .serve .result .next) × (r .serve .result .next ≤ length (a .block .now)) × (w .with-room .result .used + r .serve .result .bytes ≤ length (a .out .now))
+facts c =
+    let r = c .before .before .before .before .before .before .before .before .before .before .before in
+    let w = c .before .before .before .before .before .before .before .before .before .before .before .before .before .before .before .before .before .with-room in
+    let a = c .before .before .before .before .before .before .before .before .before .before .before .before .before .before .before .before .before .before .before .before .before .before .before .before .before .args in
+    let s = w .result in
+    let rest = take (length (a .out .now) - s .used) (drop (s .used) (a .out .now)) in
+    let on = served-on (a .block .now) (s .from) (a .line .now) (s .have) (s .lines) (s .session) (a .tasks .now) (a .promises .now) (a .report .now) rest (r .serve .ensures) (rw (w .ensures .0) (c .before .before .before .before .before .before .before .before .before .before .before .before .before .before .before .before .before .before .before .before .before .before .before .before .before .pre .0)) in
+    let within = served-within (a .block .now) (s .from) (a .line .now) (s .have) (s .lines) (s .session) (a .tasks .now) (a .promises .now) (a .report .now) rest (r .serve .ensures) in
+    (rw (← w .ensures .0) (on .0), on .1, added-within (a .out .now) (s .used) (r .serve .result .bytes) within (omega (arith, w .ensures)))
 
-enum-known-after : tie.Need-enum-known-after
-enum-known-after c = search needs
+-- src/main.rt:80:9
+with-room-requires : tie.Need-with-room-requires
+with-room-requires c κs = search needs
 
-gather-requires : tie.Need-gather-requires
-gather-requires c κs = search needs
+-- src/main.rt:93:9
+sub-serve : tie.Need-sub-serve
+sub-serve c = search needs
 
-enum-known-got : tie.Need-enum-known-got
-enum-known-got c = search needs
+-- src/main.rt:93:9
+part-serve-start : tie.Need-part-serve-start
+part-serve-start c = search needs
 
-add-reply-requires : tie.Need-add-reply-requires
-add-reply-requires c κs = search needs
+-- src/main.rt:93:9
+part-serve-end : tie.Need-part-serve-end
+part-serve-end c = search needs
 
-enum-known-got-2 : tie.Need-enum-known-got-2
-enum-known-got-2 c = search needs
+-- src/main.rt:83:9
+serve-requires : tie.Need-serve-requires
+serve-requires c κs = search needs
 
-to-end-requires : tie.Need-to-end-requires
-to-end-requires c κs = search needs
+-- src/main.rt:101:15
+add-t24 : tie.Need-add-t24
+add-t24 c = let h = facts c in let room = c .before .before .before .before .before .before .before .before .before .before .before .before .before .before .before .before .before .before .before .before .before .before .before .before .before .pre .2 in search needs
 
-enum-told : tie.Need-enum-told
-enum-told c = search needs
-
-full-requires : tie.Need-full-requires
-full-requires c κs = search needs
-
+-- src/main.rt:68:1
 same-length : tie.Need-same-length
 same-length c = search needs
 
+-- src/main.rt:68:1
 same-length-2 : tie.Need-same-length-2
 same-length-2 c = search needs
 
+-- src/main.rt:68:1
 same-length-3 : tie.Need-same-length-3
 same-length-3 c = search needs
 
+-- src/main.rt:68:1
 same-length-4 : tie.Need-same-length-4
 same-length-4 c = search needs
 
+-- src/main.rt:68:1
 same-length-5 : tie.Need-same-length-5
 same-length-5 c = search needs
 
+-- src/main.rt:68:1
 returns : tie.Need-returns
-returns c =
-    let a = c .before .before .before .before .before .before .before .before in
-    let g = a .before .before .before .before .before .before .before .before .before .before .before in
-    let o = gathered-on (g .gather .ensures) (a .before .before .before .before .before .before .before .got .given .1) in
-    (rw (a .add-reply .ensures .0) (o .0), rw (a .add-reply .ensures .0) (o .1), search needs)
-
-same-length-6 : tie.Need-same-length-6
-same-length-6 c = search needs
-
-returns-2 : tie.Need-returns-2
-returns-2 c = search needs
-
-same-length-7 : tie.Need-same-length-7
-same-length-7 c = search needs
-
-returns-3 : tie.Need-returns-3
-returns-3 c = search needs
+returns c = facts (c .before .before)
 
 pub serve-line-spec : {M : Type 1} → statement M
 serve-line-spec =
     tie.close
     (tie.spec
-    number-after-requires
-    enum-known-after
-    gather-requires
-    enum-known-got
-    add-reply-requires
-    enum-known-got-2
-    to-end-requires
-    enum-told
-    full-requires
+    with-room-requires
+    sub-serve
+    part-serve-start
+    part-serve-end
+    serve-requires
+    add-t24
     same-length
     same-length-2
     same-length-3
     same-length-4
     same-length-5
-    returns
-    same-length-6
-    returns-2
-    same-length-7
-    returns-3)
+    returns)

@@ -1,11 +1,11 @@
--- `serve` meets its contract: each turn goes on in the block, and no array changes its length.
+-- `serve_block` meets its contract: each turn goes on in the block, and no array changes its length.
 -- Assumes nothing.
 use Prim.Native.Nat.{_-_, _≤_}
 use mathlib.Core.Path.{_≡_}
 use lib.ListN.{length}
 use borrow.Author.Needs.{needs}
-use Rattle.bench.proofs.serve.Statement.{statement}
-use Rattle.bench.proofs.serve.Tie as tie
+use Rattle.bench.proofs.serve_block.Statement.{statement}
+use Rattle.bench.proofs.serve_block.Tie as tie
 
 abbrev Inv-loop : tie.InvT-loop
 Inv-loop block line₀ tasks₀ promises₀ report₀ out₀ s₀ line tasks promises report out s =
@@ -14,8 +14,8 @@ Inv-loop block line₀ tasks₀ promises₀ report₀ out₀ s₀ line tasks pro
 abbrev μ-loop : tie.MeasureT-loop
 μ-loop block line₀ tasks₀ promises₀ report₀ out₀ s₀ line tasks promises report out s = length block - s .from
 
-to-end-requires : tie.Need-to-end-requires Inv-loop μ-loop
-to-end-requires c κs = search needs
+at-start-requires : tie.Need-at-start-requires Inv-loop μ-loop
+at-start-requires c κs = search needs
 
 loop-holds : tie.Need-loop-holds Inv-loop μ-loop
 loop-holds c = search needs
@@ -65,13 +65,13 @@ same-length-10 c = search needs
 returns-2 : tie.Need-returns-2 Inv-loop μ-loop
 returns-2 c = search needs
 
-pub serve-spec : {M : Type 1} → statement M
-serve-spec =
+pub serve-block-spec : {M : Type 1} → statement M
+serve-block-spec =
     tie.close
     (tie.spec
     Inv-loop
     μ-loop
-    to-end-requires
+    at-start-requires
     loop-holds
     same-length
     same-length-2
