@@ -39,7 +39,7 @@ counted-long : (L t : ℕ) → L < t → counted L t ≡ L + 1
 unfolding counted
 counted-long L t h = omega arith
 
-holds-length : {t o x : List ℕ} {n : ℕ} → Holds t o x n → length x ≡ length o
+pub holds-length : {t o x : List ℕ} {n : ℕ} → Holds t o x n → length x ≡ length o
 holds-length {t} {o} h = ap length (h .bytes) ∙ over-length (fitting t o) o (fitting-most t o)
 
 -- EACH BLOCK ADDS ITS PIECE
