@@ -2,7 +2,7 @@
 // It reads blocks and has each line's answer written straight after the answers that wait in the output array. These are put out where less than an answer
 // line's room is left and before every read, so that a partner on a pipe is never left waiting. What is decided about lines stands in the crate serving; what is
 // written to standard output is held to stdout, and not proved.
-use lines::Session;
+use sessions::Session;
 ghost use mathlib.Core.Path.{_≡_};
 ghost use Prim.Native.Nat.{_+_, _≤_, _<_};
 ghost use lib.ListN.{length};

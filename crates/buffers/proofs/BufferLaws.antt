@@ -12,7 +12,7 @@ use lib.ListN.{length, take, drop, set, length-append, length-take, length-drop,
 use lib.Seq.{length-take-le, set-out, take-all, take-nil, take-append-seam, drop-append-seam, drop-drop, set-split, drop-cons, set-append-seam, append-snoc}
 use borrow.Rule.Slice.PartMut.{putMid}
 use Rattle.words.specs.Lists.{over}
-use Rattle.words.proofs.ListLaws.{over-none, over-length}
+use Rattle.words.proofs.ListLaws.{over-length}
 use Rattle.buffers.specs.Buffers.{fitting, Wrote, Added}
 
 -- ---- over

@@ -1,28 +1,22 @@
 -- Laws of specs/Lines.antt: the parts of the entry, put together. Assumes nothing.
 use Prim.Native.Nat.{ℕ, suc, _-_, _≤_, _<_}
 use mathlib.Core.Path.{_≡_, refl, sym, ap, subst, subst₂, _∙_}
-use mathlib.Core.Logic.{_≢_}
-use mathlib.Core.List.{List, [], _∷_, _++_}
+use mathlib.Core.List.{List, []}
 use mathlib.Core.Bool.{Bool, true, false, cond, not, _&&_}
 use native.Mathlib.Omega.{arith}
 use native.Mathlib.Nat.{sub-zero}
 use lib.Dec.{eqb, leb}
-use borrow.Author.Tests.{eq-eqb, ne-eqb, eqb-true, leb-true, lt-ltb, le-ltb}
-use lib.ListN.{length, take, drop, replicate, length-replicate}
-use lib.Seq.{length-take-le, take-append-seam, take-all}
-use Rattle.words.specs.Words.{Form, small, sizesInBounds}
+use borrow.Author.Tests.{eqb-true, leb-true, lt-ltb, le-ltb}
+use lib.ListN.{length, take, drop, length-replicate}
+use lib.Seq.{take-append-seam, take-all}
+use Rattle.words.specs.Words.{small, sizesInBounds}
 use Rattle.words.specs.Lists.{over}
-use Rattle.words.proofs.ListLaws.{over-none}
 use Rattle.words.proofs.BoolLaws.{and-split}
-use Rattle.words.proofs.WordLaws.{sizesInBounds-true}
-use Rattle.rules.specs.Tables.{Tables, tables, fresh}
-use Rattle.rules.specs.Sessions.{freshRefusal, freshened, Freshens}
+use Rattle.rules.specs.Tables.{tables}
+use Rattle.rules.specs.Sessions.{freshRefusal}
 use Rattle.rules.specs.Refusals.{first}
-use Rattle.rules.specs.Steps.{Outcome, step-new, step-set, step-get, step-async, step-end}
-use Rattle.rules.specs.Contracts.{Gives}
+use Rattle.rules.specs.Steps.{step-new, step-set, step-get, step-async, step-end}
 use Rattle.rules.specs.declared.Answer.{Answer}
-use Rattle.rules.specs.declared.Answer.the-variants.{Opened, Refused}
-use Rattle.rules.proofs.RefusalLaws.{first-none, not-is-false}
 use Rattle.forms.specs.declared.Form.{Form as LineForm}
 use Rattle.forms.specs.declared.Form.the-variants as F
 use Rattle.forms.specs.Judging.{countIn, formOf, entriesOf, Judged}
@@ -32,94 +26,15 @@ use Rattle.forms.proofs.Theorems.{form-counts, entries-most, judged-whole}
 use Rattle.buffers.specs.Buffers.{fitting, Wrote}
 use Rattle.words.proofs.ListLaws.{over-length}
 use Rattle.buffers.proofs.BufferLaws.{fitting-most, wrote-room}
-use Rattle.answers.specs.AnswerText.{fieldsOf, answerText, longestAnswer}
+use Rattle.answers.specs.AnswerText.{answerText, longestAnswer}
 use Rattle.answers.proofs.Fits.{refused-fits, opened-fits, step-answer-fits}
-use Rattle.lines.specs.declared.Session.{Session}
-use Rattle.lines.specs.declared.Session.the-variants.{Unopened, Open}
-use Rattle.lines.specs.declared.Done.{Done}
+use Rattle.sessions.specs.declared.Session.{Session}
+use Rattle.sessions.specs.declared.Session.the-variants.{Unopened, Open}
+use Rattle.sessions.specs.declared.Done.{Done}
+use Rattle.sessions.specs.Sessions.{Deed, refusedBy, opened, openDeed, unopenedDeed, openOutcome, deedOf, inSession, Does}
+use Rattle.sessions.proofs.SessionLaws.{deed-list}
 use Rattle.lines.specs.declared.Entered.{Entered}
-use Rattle.lines.specs.Lines.{Deed, refusedBy, opened, openDeed, unopenedDeed, openOutcome, deedOf, inSession, lentWell, entered, notEntered, Entry, Enters, Does, InPart, heldLine, entryOf, replyOf}
-
--- what was done to the parts that were lent was done to the first words of the tables
-pub inPart-of : (T P : ℕ) (ts ps : List ℕ) {o : Outcome} {rs pt pp rs′ : List ℕ} {a : Answer} → Gives o rs a pt pp rs′ → InPart o T P ts ps rs a (pt ++ drop T ts) (pp ++ drop P ps) rs′
-inPart-of T P ts ps g = record {
-  answer = g .answer;
-  tasks = ap (λ (x : List ℕ). x ++ drop T ts) (g .tasks);
-  promises = ap (λ (x : List ℕ). x ++ drop P ps) (g .promises);
-  report = g .report;
-}
-
--- ---- before a session is opened
-
-refusal-number : (F : Form) (T P : ℕ) → freshRefusal F T P ≡ 0 → sizesInBounds F T P ≡ true
-unfolding freshRefusal
-refusal-number F T P e = not-is-false (sizesInBounds F T P) (first-none 1 (not (sizesInBounds F T P)) [] (λ (z : _≡_ {A = ℕ} 1 0). omega arith) e .0)
-
--- where an open is not refused, T and P are within their bounds
-pub freshRefusal-none : (T P : ℕ) → freshRefusal small T P ≡ 0 → (T ≤ 64) × (P ≤ 256)
-freshRefusal-none T P e = let s = sizesInBounds-true small T P (refusal-number small T P e) in (s .tasks, s .promises)
-
-pub does-refused : {d : Deed} (ts ps : List ℕ) (session : Session) (r : ℕ) {x : Done} → d ≡ refusedBy r session ts ps → x .answer ≡ Refused r → x .session ≡ session → Does d [] x ts ps []
-does-refused ts ps session r e a b = rw e (record { answer = a; session = b; tasks = refl; promises = refl; report = sym (over-none []) })
-
-pub openDeed-refused : (ts ps : List ℕ) (T P r : ℕ) → r ≡ freshRefusal small T P → r ≢ 0 → openDeed ts ps T P ≡ refusedBy r Unopened ts ps
-unfolding openDeed
-openDeed-refused ts ps T P r e n = rw (← e, ne-eqb r 0 n)
-
--- fresh tables of the parts that were lent are fresh tables of that size
-freshened-part : (T P : ℕ) (ts ps : List ℕ) → T ≤ length ts → P ≤ length ps → freshRefusal small T P ≡ 0 → freshened small (tables (take T ts) (take P ps)) ≡ fresh T P
-unfolding freshened
-freshened-part T P ts ps h k e = rw (length-take-le T ts h, length-take-le P ps k, eq-eqb (freshRefusal small T P) 0 e)
-
-pub does-opened : (T P : ℕ) (ts ps : List ℕ) {r : ℕ} {pt pp : List ℕ} {x : Done} → T ≤ length ts → P ≤ length ps → freshRefusal small T P ≡ 0
-    → Freshens small (tables (take T ts) (take P ps)) r pt pp → x .answer ≡ Opened → x .session ≡ Open T P → Does (openDeed ts ps T P) [] x (pt ++ drop T ts) (pp ++ drop P ps) []
-unfolding openDeed
-does-opened T P ts ps h k e f a b =
-    let z = freshened-part T P ts ps h k e in
-    rw (eq-eqb (freshRefusal small T P) 0 e)
-    (record {
-      answer = a;
-      session = b;
-      tasks = ap (λ (l : List ℕ). l ++ drop T ts) (f .tasks ∙ ap (λ (s : Tables). s .tasks) z);
-      promises = ap (λ (l : List ℕ). l ++ drop P ps) (f .promises ∙ ap (λ (s : Tables). s .promises) z);
-      report = sym (over-none []);
-    })
-
--- a line before a session is opened writes no report
-unopened-words : (f : LineForm) (ts ps : List ℕ) → unopenedDeed f ts ps .words ≡ []
-unfolding unopenedDeed openDeed
-unopened-words (F.Open T P) ts ps = go (eqb (freshRefusal small T P) 0)
-  where
-    go : (b : Bool) → cond b (opened T P ts ps) (refusedBy (freshRefusal small T P) Unopened ts ps) .words ≡ []
-    go true = refl
-    go false = refl
-unopened-words (F.New t p) ts ps = refl
-unopened-words (F.Set t p) ts ps = refl
-unopened-words (F.Get t p) ts ps = refl
-unopened-words (F.Async t c k) ts ps = refl
-unopened-words (F.End t) ts ps = refl
-unopened-words (F.Bad c) ts ps = refl
-
-pub does-unopened : (f : LineForm) (vs ts ps rs : List ℕ) (n : ℕ) {x : Done} {ts′ ps′ : List ℕ} → Does (unopenedDeed f ts ps) [] x ts′ ps′ [] → Does (deedOf f vs Unopened ts ps n) rs x ts′ ps′ rs
-unfolding deedOf
-does-unopened f vs ts ps rs n d = record {
-  answer = d .answer;
-  session = d .session;
-  tasks = d .tasks;
-  promises = d .promises;
-  report = sym (ap (λ (ws : List ℕ). over ws rs) (unopened-words f ts ps) ∙ over-none rs);
-}
-
--- ---- in an open session
-
-pub inSession-open : (T P : ℕ) → inSession (Open T P) ≡ true → (T ≤ 64) × (P ≤ 256)
-unfolding inSession
-inSession-open T P e = let s = sizesInBounds-true small T P e in (s .tasks, s .promises)
-
-pub does-open : (f : LineForm) (vs ts ps rs : List ℕ) (n T P : ℕ) {x : Done} {a : Answer} {ts′ ps′ rs′ : List ℕ}
-    → InPart (openOutcome f vs n (tables (take T ts) (take P ps))) T P ts ps rs a ts′ ps′ rs′ → x .answer ≡ a → x .session ≡ Open T P → Does (deedOf f vs (Open T P) ts ps n) rs x ts′ ps′ rs′
-unfolding deedOf
-does-open f vs ts ps rs n T P d e g = record { answer = e ∙ d .answer; session = g; tasks = d .tasks; promises = d .promises; report = d .report }
+use Rattle.lines.specs.Lines.{lentWell, entered, notEntered, Entry, Enters, heldLine, entryOf, replyOf}
 
 -- ---- the entry
 
@@ -164,18 +79,6 @@ unfolding over countIn
 async-entries s o x t c k e w =
     let n : k ≡ length (entriesOf s) = sym (ap countIn e) ∙ form-counts s (λ j z. async-not-bad (sym e ∙ z)) in
     rw (w, n) (take-append-seam (entriesOf s) (drop (length (entriesOf s)) o))
-
--- a line does what it does with its own list, however the list was lent
-deed-list : (f : LineForm) (vs vs′ : List ℕ) (session : Session) (ts ps : List ℕ) (n : ℕ) → ((t c k : ℕ) → f ≡ F.Async t c k → vs ≡ vs′) → deedOf f vs session ts ps n ≡ deedOf f vs′ session ts ps n
-unfolding deedOf openOutcome
-deed-list f vs vs′ Unopened ts ps n h = refl
-deed-list (F.Open T P) vs vs′ (Open T′ P′) ts ps n h = refl
-deed-list (F.New t p) vs vs′ (Open T P) ts ps n h = refl
-deed-list (F.Set t p) vs vs′ (Open T P) ts ps n h = refl
-deed-list (F.Get t p) vs vs′ (Open T P) ts ps n h = refl
-deed-list (F.Async t c k) vs vs′ (Open T P) ts ps n h = rw (h t c k refl)
-deed-list (F.End t) vs vs′ (Open T P) ts ps n h = refl
-deed-list (F.Bad c) vs vs′ (Open T P) ts ps n h = refl
 
 pub deed-read : (s o x : List ℕ) (f : LineForm) (session : Session) (ts ps : List ℕ) (n : ℕ) → Judged s o x f → 1024 ≤ length o
     → deedOf f (take (countIn f) x) session ts ps n ≡ deedOf (formOf s) (entriesOf s) session ts ps n
@@ -245,19 +148,6 @@ enters-of n rs out {d} {d′} {x} {e} {ts} {ps} {rs′} {out′} z does fit wrot
     let w : Wrote (answerText n (d′ .answer) (over (d′ .words) rs)) out out′ (e .bytes) = subst₂ (λ (a : Answer) (r : List ℕ). Wrote (answerText n a r) out out′ (e .bytes)) (g .answer) (g .report) wrote in
     let room = wrote-room w fit in
     record { number = number; session = session ∙ g .session; bytes = room .0; tasks = g .tasks; promises = g .promises; report = g .report; answer = room .1 }
-
--- 01, "How much each contract must say": any two outcomes that the contract of `enter` allows coincide
-pub enters-unique : {e : Entry} {r q : Entered} {ts ts′ ps ps′ rs rs′ out out′ : List ℕ} → Enters e r ts ps rs out → Enters e q ts′ ps′ rs′ out′
-    → (r .number ≡ q .number) × (r .session ≡ q .session) × (r .bytes ≡ q .bytes) × (ts ≡ ts′) × (ps ≡ ps′) × (rs ≡ rs′) × (out ≡ out′)
-enters-unique g h = (
-  g .number ∙ sym (h .number),
-  g .session ∙ sym (h .session),
-  g .bytes ∙ sym (h .bytes),
-  g .tasks ∙ sym (h .tasks),
-  g .promises ∙ sym (h .promises),
-  g .report ∙ sym (h .report),
-  g .answer ∙ sym (h .answer),
-)
 
 -- the list that a line was read into is as long as it was lent
 pub judged-count : (s o x : List ℕ) (f : LineForm) → Judged s o x f → 1024 ≤ length o → countIn f ≤ length x

@@ -1,6 +1,6 @@
 -- Laws of specs/Serving.antt: the ways through a turn. Assumes nothing.
 use Prim.Native.Nat.{ℕ, _+_, _≤_, _<_}
-use mathlib.Core.Path.{_≡_, refl, ap, sym, subst, _∙_}
+use mathlib.Core.Path.{_≡_, refl, sym, subst, _∙_}
 use mathlib.Core.List.{List}
 use mathlib.Core.Bool.{Bool, true, false, cond}
 use native.Mathlib.Omega.{arith}
@@ -15,12 +15,12 @@ use Rattle.gather.specs.declared.Got.{Got}
 use Rattle.gather.specs.declared.Got.the-variants as G
 use Rattle.gather.specs.declared.Numbering.{Numbering}
 use Rattle.gather.specs.declared.Numbering.the-variants as N
-use Rattle.lines.specs.declared.Session.{Session}
+use Rattle.sessions.specs.declared.Session.{Session}
 use Rattle.lines.specs.declared.Entered.{Entered}
 use Rattle.lines.specs.Lines.{Entry, Enters, heldLine, replyOf}
 use Rattle.lines.proofs.LineLaws.{entry-within}
 use Rattle.serving.specs.declared.Served.{Served}
-use Rattle.serving.specs.Serving.{fullText, Turn, answeredTurn, wentOn, stopped, brought, numbered, turnOf, Serves}
+use Rattle.serving.specs.Serving.{fullText, answeredTurn, wentOn, stopped, brought, numbered, turnOf, Serves}
 
 -- what was entered is what was answered
 pub serves-entered : (x : List ℕ) (n next : ℕ) {e : Entry} {r : Entered} {q : Served} {ts ps rs out : List ℕ} → Enters e r ts ps rs out

@@ -7,31 +7,29 @@ use mathlib.Core.List.{List, [], _∷_, _++_, append-assoc, append-nil}
 use mathlib.Core.Bool.{Bool, true, false, cond}
 use native.Mathlib.Omega.{arith}
 use native.Mathlib.Decide.{decLt}
-use native.Mathlib.Numerals.{add-one}
-use borrow.Author.Tests.{eqb-true, lt-ltb, le-ltb, leb-true, le-leb}
-use lib.Dec.{eqb, ltb, leb}
+use borrow.Author.Tests.{ne-eqb, lt-ltb, le-ltb, le-leb}
+use lib.Dec.{eqb}
 use lib.ListN.{length, getD, take, drop, replicate, length-replicate, length-drop, drop-of-length-le}
 use lib.Seq.{take-all, take-append-seam, drop-drop, drop-cons}
 use Rattle.words.specs.Lists.{over}
 use Rattle.buffers.specs.Buffers.{fitting}
 use Rattle.buffers.proofs.BufferLaws.{over-is, fitting-room}
 use Rattle.fields.specs.Fields.{runTo, endFrom}
-use Rattle.fields.proofs.FieldLaws.{runTo-most}
 use Rattle.forms.specs.Forms.{longestLine}
 use Rattle.forms.specs.Judging.{formOf, entriesOf}
 use Rattle.answers.specs.AnswerText.{answerText, longestAnswer}
-use Rattle.gather.specs.Gather.{lineEnd, pieceOf, counted, gatheredIn, gotOf, Gathered, Holds, isLast, numberAfter}
-use Rattle.gather.specs.declared.Got.{Got}
+use Rattle.gather.specs.Gather.{lineEnd, pieceOf, counted, gatheredIn, gotOf, Holds, isLast, numberAfter}
 use Rattle.gather.specs.declared.Got.the-variants as G
 use Rattle.gather.specs.declared.Numbering.{Numbering}
 use Rattle.gather.specs.declared.Numbering.the-variants as N
-use Rattle.gather.proofs.Theorems.{holds-length, holds-none, holds-piece, holds-whole, holds-long, gathered-counts}
-use Rattle.lines.specs.declared.Session.{Session}
-use Rattle.lines.specs.Lines.{lentWell, Deed, deedOf, entered, notEntered, Entry, entryOf, heldLine, replyOf}
+use Rattle.gather.proofs.Theorems.{holds-length, holds-none, holds-piece, holds-whole, holds-long}
+use Rattle.sessions.specs.declared.Session.{Session}
+use Rattle.sessions.specs.Sessions.{Deed, deedOf}
+use Rattle.lines.specs.Lines.{lentWell, entered, notEntered, Entry, entryOf, heldLine, replyOf}
 use Rattle.lines.proofs.LineLaws.{heldLine-within, heldLine-long, long-lines-alike}
 use Rattle.serving.specs.declared.Served.{Served}
-use Rattle.serving.specs.Serving.{fullText, Turn, answeredTurn, wentOn, stopped, turnOf, Serves}
-use Rattle.serving.specs.Input.{Desk, opening, begunWith, entryAt, answered, full, fedIn, fed, feed, ended, printed, Buffered, Takes}
+use Rattle.serving.specs.Serving.{Serves, fullText, Turn, turnOf}
+use Rattle.serving.specs.Input.{Desk, opening, begunWith, entryAt, answered, full, fedIn, fed, feed, Buffered, Takes}
 use Rattle.serving.proofs.ServingLaws.{turn-full, turn-more, turn-line}
 
 -- ---- a line that was gathered
@@ -257,3 +255,34 @@ module _ (d : Desk) (b : List ℕ) (from : ℕ) (x : List ℕ) (have : ℕ) (out
         go N.Full e l = (full d, takes-full e)
         go (N.Line n) e (yes l) = (answered (begunWith d (pieceOf b from)) n, takes-line n e l)
         go (N.Line n) e (no l) = (begunWith d (pieceOf b from), takes-more n e (omega arith))
+
+-- the program's values before the first byte, with any line buffer
+pub opening-buffered : (x : List ℕ) → length x ≡ longestLine → Buffered opening x 0
+opening-buffered x e = record { first = x; room = e; held = holds-none x }
+
+-- a last line without LF is one where bytes are counted
+pub last-is-last : (d : Desk) (x : List ℕ) (have : ℕ) → Buffered d x have → isLast have ≡ isLast (length (d .begun))
+unfolding isLast counted
+last-is-last d x have w = go (length (d .begun)) (w .held .count)
+  where
+    go : (k : ℕ) → have ≡ counted (length (w .first)) k → isLast have ≡ isLast k
+    go zero e = let z : have ≡ 0 = omega arith in rw z
+    go (suc k) e = let z : (have ≡ 0) → ⊥ = omega arith in let y : (suc k ≡ 0) → ⊥ = omega arith in rw (ne-eqb have 0 z, ne-eqb (suc k) 0 y)
+
+-- ---- 01, "How much each contract must say": any two outcomes that a contract allows coincide
+
+pub served-unique : {t : Turn} {p q : Served} {x x′ ts ts′ ps ps′ rs rs′ out out′ : List ℕ} → Serves t p x ts ps rs out → Serves t q x′ ts′ ps′ rs′ out′
+    → (p .next ≡ q .next) × (p .have ≡ q .have) × (p .lines ≡ q .lines) × (p .session ≡ q .session) × (p .bytes ≡ q .bytes) × (p .going ≡ q .going) × (x ≡ x′) × (ts ≡ ts′) × (ps ≡ ps′) × (rs ≡ rs′) × (out ≡ out′)
+served-unique g h = (
+  g .next ∙ sym (h .next),
+  g .have ∙ sym (h .have),
+  g .lines ∙ sym (h .lines),
+  g .session ∙ sym (h .session),
+  g .bytes ∙ sym (h .bytes),
+  g .going ∙ sym (h .going),
+  g .line ∙ sym (h .line),
+  g .tasks ∙ sym (h .tasks),
+  g .promises ∙ sym (h .promises),
+  g .report ∙ sym (h .report),
+  g .answer ∙ sym (h .answer),
+)

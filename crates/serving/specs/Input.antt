@@ -23,8 +23,8 @@ use Rattle.answers.specs.AnswerText.{longestAnswer}
 use Rattle.gather.specs.Gather.{lineEnd, isLast, numberAfter, Holds}
 use Rattle.gather.specs.declared.Numbering.{Numbering}
 use Rattle.gather.specs.declared.Numbering.the-variants as N
-use Rattle.lines.specs.declared.Session.{Session}
-use Rattle.lines.specs.declared.Session.the-variants.{Unopened}
+use Rattle.sessions.specs.declared.Session.{Session}
+use Rattle.sessions.specs.declared.Session.the-variants.{Unopened}
 use Rattle.lines.specs.Lines.{Entry, entryOf}
 use Rattle.serving.specs.Serving.{fullText, Turn}
 

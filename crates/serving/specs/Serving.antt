@@ -19,7 +19,7 @@ use Rattle.gather.specs.declared.Got.{Got}
 use Rattle.gather.specs.declared.Got.the-variants as G
 use Rattle.gather.specs.declared.Numbering.{Numbering}
 use Rattle.gather.specs.declared.Numbering.the-variants as N
-use Rattle.lines.specs.declared.Session.{Session}
+use Rattle.sessions.specs.declared.Session.{Session}
 use Rattle.lines.specs.Lines.{Entry, replyOf}
 use Rattle.serving.specs.declared.Served.{Served}
 

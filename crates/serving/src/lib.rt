@@ -1,7 +1,7 @@
 // An input that comes in blocks, answered line by line.
 use gather::Got;
 use gather::Numbering;
-use lines::Session;
+use sessions::Session;
 ghost use Rattle.serving.specs.Serving.{turnOf, answeredTurn, Serves};
 ghost use Rattle.lines.specs.Lines.{replyOf};
 

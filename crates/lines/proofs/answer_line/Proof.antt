@@ -12,7 +12,7 @@ use Rattle.lines.proofs.answer_line.Reads as reads
 use Rattle.lines.proofs.answer_line.Lts as lts
 use Rattle.answers.proofs.put_answer.Reads as put-answer-reads
 use Rattle.lines.proofs.judge_held.Reads as judge-held-reads
-use Rattle.lines.proofs.act.Reads as act-reads
+use Rattle.sessions.proofs.act.Reads as act-reads
 
 -- src/lib.rt:196:9
 judge-held-requires : tie.Need-judge-held-requires

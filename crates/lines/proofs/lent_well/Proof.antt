@@ -6,7 +6,7 @@ use Rattle.lines.proofs.lent_well.Statement.{statement}
 use Rattle.lines.proofs.lent_well.Tie as tie
 use Rattle.lines.proofs.lent_well.Reads as reads
 use Rattle.lines.proofs.lent_well.Lts as lts
-use Rattle.lines.proofs.in_session.Reads as in-session-reads
+use Rattle.sessions.proofs.in_session.Reads as in-session-reads
 
 -- src/lib.rt:59:16
 in-session-requires : tie.Need-in-session-requires

@@ -1,14 +1,14 @@
 use mathlib.Core.Path.{refl}
-use Rattle.lines.proofs.LineLaws.{inSession-open, does-unopened, does-open}
+use Rattle.sessions.proofs.SessionLaws.{inSession-open, does-unopened, does-open}
 use native.Mathlib.Omega.{arith}
 use Rattle.words.proofs.Tests.{tests}
 use borrow.Author.Needs.{needs}
-use Rattle.lines.proofs.act.Statement.{statement}
-use Rattle.lines.proofs.act.Tie as tie
-use Rattle.lines.proofs.act.Reads as reads
-use Rattle.lines.proofs.act.Lts as lts
-use Rattle.lines.proofs.in_part.Reads as in-part-reads
-use Rattle.lines.proofs.unopened.Reads as unopened-reads
+use Rattle.sessions.proofs.act.Statement.{statement}
+use Rattle.sessions.proofs.act.Tie as tie
+use Rattle.sessions.proofs.act.Reads as reads
+use Rattle.sessions.proofs.act.Lts as lts
+use Rattle.sessions.proofs.in_part.Reads as in-part-reads
+use Rattle.sessions.proofs.unopened.Reads as unopened-reads
 
 -- src/lib.rt:163:45
 enum-told : tie.Need-enum-told

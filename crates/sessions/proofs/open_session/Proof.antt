@@ -1,14 +1,14 @@
 use mathlib.Core.Path.{refl, sym, _∙_}
 use native.Mathlib.Nat.{sub-zero}
-use Rattle.lines.specs.declared.Session.the-variants.{Unopened}
-use Rattle.lines.proofs.LineLaws.{freshRefusal-none, does-refused, does-opened, openDeed-refused}
+use Rattle.sessions.specs.declared.Session.the-variants.{Unopened}
+use Rattle.sessions.proofs.SessionLaws.{freshRefusal-none, does-refused, does-opened, openDeed-refused}
 use native.Mathlib.Omega.{arith}
 use Rattle.words.proofs.Tests.{tests}
 use borrow.Author.Needs.{needs}
-use Rattle.lines.proofs.open_session.Statement.{statement}
-use Rattle.lines.proofs.open_session.Tie as tie
-use Rattle.lines.proofs.open_session.Reads as reads
-use Rattle.lines.proofs.open_session.Lts as lts
+use Rattle.sessions.proofs.open_session.Statement.{statement}
+use Rattle.sessions.proofs.open_session.Tie as tie
+use Rattle.sessions.proofs.open_session.Reads as reads
+use Rattle.sessions.proofs.open_session.Lts as lts
 use Rattle.opening.proofs.fresh.Reads as fresh-reads
 use Rattle.opening.proofs.fresh_refusal.Reads as fresh-refusal-reads
 

@@ -1,11 +1,11 @@
-use Rattle.lines.specs.Lines.{inSession}
+use Rattle.sessions.specs.Sessions.{inSession}
 use native.Mathlib.Omega.{arith}
 use Rattle.words.proofs.Tests.{tests}
 use borrow.Author.Needs.{needs}
-use Rattle.lines.proofs.in_session.Statement.{statement}
-use Rattle.lines.proofs.in_session.Tie as tie
-use Rattle.lines.proofs.in_session.Reads as reads
-use Rattle.lines.proofs.in_session.Lts as lts
+use Rattle.sessions.proofs.in_session.Statement.{statement}
+use Rattle.sessions.proofs.in_session.Tie as tie
+use Rattle.sessions.proofs.in_session.Reads as reads
+use Rattle.sessions.proofs.in_session.Lts as lts
 use Rattle.words.proofs.sizes_in_bounds.Reads as sizes-in-bounds-reads
 
 -- src/lib.rt:47:30

@@ -1,15 +1,15 @@
-use Rattle.lines.specs.declared.Session.the-variants.{Unopened}
-use Rattle.lines.specs.Lines.{unopenedDeed}
-use Rattle.lines.proofs.LineLaws.{does-refused}
+use Rattle.sessions.specs.declared.Session.the-variants.{Unopened}
+use Rattle.sessions.specs.Sessions.{unopenedDeed}
+use Rattle.sessions.proofs.SessionLaws.{does-refused}
 use native.Mathlib.Omega.{arith}
 use Rattle.words.proofs.Tests.{tests}
 use borrow.Author.Needs.{needs}
-use Rattle.lines.proofs.unopened.Statement.{statement}
-use Rattle.lines.proofs.unopened.Tie as tie
-use Rattle.lines.proofs.unopened.Reads as reads
-use Rattle.lines.proofs.unopened.Lts as lts
-use Rattle.lines.proofs.open_session.Reads as open-session-reads
-use Rattle.lines.proofs.refused_unopened.Reads as refused-unopened-reads
+use Rattle.sessions.proofs.unopened.Statement.{statement}
+use Rattle.sessions.proofs.unopened.Tie as tie
+use Rattle.sessions.proofs.unopened.Reads as reads
+use Rattle.sessions.proofs.unopened.Lts as lts
+use Rattle.sessions.proofs.open_session.Reads as open-session-reads
+use Rattle.sessions.proofs.refused_unopened.Reads as refused-unopened-reads
 
 -- src/lib.rt:116:20
 enum-known-form : tie.Need-enum-known-form

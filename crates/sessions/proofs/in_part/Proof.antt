@@ -1,13 +1,13 @@
 use native.Mathlib.Nat.{sub-zero}
-use Rattle.lines.proofs.LineLaws.{inPart-of}
+use Rattle.sessions.proofs.SessionLaws.{inPart-of}
 use native.Mathlib.Omega.{arith}
 use Rattle.words.proofs.Tests.{tests}
 use borrow.Author.Needs.{needs}
-use Rattle.lines.proofs.in_part.Statement.{statement}
-use Rattle.lines.proofs.in_part.Tie as tie
-use Rattle.lines.proofs.in_part.Reads as reads
-use Rattle.lines.proofs.in_part.Lts as lts
-use Rattle.lines.proofs.in_open.Reads as in-open-reads
+use Rattle.sessions.proofs.in_part.Statement.{statement}
+use Rattle.sessions.proofs.in_part.Tie as tie
+use Rattle.sessions.proofs.in_part.Reads as reads
+use Rattle.sessions.proofs.in_part.Lts as lts
+use Rattle.sessions.proofs.in_open.Reads as in-open-reads
 
 -- src/lib.rt:137:9
 sub-in-open : tie.Need-sub-in-open

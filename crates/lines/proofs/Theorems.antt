@@ -1,0 +1,56 @@
+-- What is promised of the line entry. Assumes nothing.
+use Prim.Native.Nat.{ℕ}
+use mathlib.Core.Path.{_≡_, refl, sym, ap, _∙_}
+use mathlib.Core.List.{List, []}
+use mathlib.Core.Bool.{Bool, true, false, cond}
+use lib.ListN.{length}
+use Rattle.words.specs.Lists.{over}
+use Rattle.words.proofs.ListLaws.{over-none}
+use Rattle.rules.specs.Demands.{Refusal}
+use Rattle.forms.specs.Judging.{formOf, entriesOf}
+use Rattle.sessions.specs.declared.Session.{Session}
+use Rattle.sessions.specs.Sessions.{Deed, deedOf}
+use Rattle.sessions.proofs.Theorems.{OnlyAnswers, a-refused-line-only-answers}
+use Rattle.lines.specs.declared.Entered.{Entered}
+use Rattle.lines.specs.Lines.{lentWell, entered, notEntered, Entry, Enters, entryOf}
+
+-- nothing but the answer line is left of an entry
+pub record OnlyAnswerLine (e : Entry) (session : Session) (ts ps rs : List ℕ) : Type 0 where
+  pub session-stays : e .session ≡ session
+  pub tasks-stay : e .tasks ≡ ts
+  pub promises-stay : e .promises ≡ ps
+  pub report-stays : e .report ≡ rs
+
+-- A REFUSED LINE ONLY GETS ITS ANSWER LINE
+pub a-refused-line-only-gets-its-answer-line : (line : List ℕ) (n : ℕ) (session : Session) (ts ps rs out : List ℕ) → Refusal (deedOf (formOf line) (entriesOf line) session ts ps (length rs) .answer)
+    → OnlyAnswerLine (entryOf line n session ts ps rs out) session ts ps rs
+unfolding entryOf
+a-refused-line-only-gets-its-answer-line line n session ts ps rs out r = go (lentWell n session (length ts) (length ps) (length rs) (length out))
+  where
+    d : Deed
+    d = deedOf (formOf line) (entriesOf line) session ts ps (length rs)
+
+    only : OnlyAnswers d session ts ps
+    only = a-refused-line-only-answers (formOf line) (entriesOf line) session ts ps (length rs) r
+
+    go : (b : Bool) → OnlyAnswerLine (cond b (entered n rs out d) (notEntered session ts ps rs out)) session ts ps rs
+    go true = record {
+      session-stays = only .session-stays;
+      tasks-stay = only .tasks-stay;
+      promises-stay = only .promises-stay;
+      report-stays = ap (λ (ws : List ℕ). over ws rs) (only .no-words) ∙ over-none rs;
+    }
+    go false = record { session-stays = refl; tasks-stay = refl; promises-stay = refl; report-stays = refl }
+
+-- 01, "How much each contract must say": any two outcomes that the contract of `enter` allows coincide
+pub enters-unique : {e : Entry} {r q : Entered} {ts ts′ ps ps′ rs rs′ out out′ : List ℕ} → Enters e r ts ps rs out → Enters e q ts′ ps′ rs′ out′
+    → (r .number ≡ q .number) × (r .session ≡ q .session) × (r .bytes ≡ q .bytes) × (ts ≡ ts′) × (ps ≡ ps′) × (rs ≡ rs′) × (out ≡ out′)
+enters-unique g h = (
+  g .number ∙ sym (h .number),
+  g .session ∙ sym (h .session),
+  g .bytes ∙ sym (h .bytes),
+  g .tasks ∙ sym (h .tasks),
+  g .promises ∙ sym (h .promises),
+  g .report ∙ sym (h .report),
+  g .answer ∙ sym (h .answer),
+)
