@@ -19,6 +19,7 @@ use Rattle.rules.specs.Demands.{Apart, Good}
 use Rattle.rules.proofs.Accepted.{Took, stayed, moved, guarded-is, took-raw}
 use Rattle.rules.proofs.Moves.{sound-step}
 use Rattle.rules.proofs.RefusalLaws.{first-none, not-is-false}
+use Rattle.rules.proofs.SoundTest.{soundTest-sound}
 
 module _ (F : Form) (apart : Apart F) (n : ℕ) where
   -- the owned words of tables within their bounds end before the blamed ones begin
@@ -29,9 +30,17 @@ module _ (F : Form) (apart : Apart F) (n : ℕ) where
   bounds-of : (s : Tables) → first (tableRows F n s) ≡ 0 → inBounds F (length (s .tasks)) (length (s .promises)) n ≡ true
   bounds-of s e = not-is-false _ (first-none 1 (not (inBounds F (length (s .tasks)) (length (s .promises)) n)) _ (λ (z : _≡_ {A = ℕ} 1 0). omega arith) e .0)
 
-  -- each step of any task, with any numbers, from any sound tables
-  pub took-step : (s : Tables) → Sound (F .base) s → (x : Step) → Took (F .base) s (actor x) (step F n s x .after)
-  took-step s sd x = guarded-is (first (tableRows F n s)) s (raw F s x) (Took (F .base) s (actor x)) (stayed refl) (λ e. took-raw F s (fits s (bounds-of s e)) sd x)
+  -- nor is refusal 2
+  sound-of : (s : Tables) → first (tableRows F n s) ≡ 0 → Sound (F .base) s
+  sound-of s e =
+      let (a, e₁) = first-none 1 (not (inBounds F (length (s .tasks)) (length (s .promises)) n)) _ (λ (z : _≡_ {A = ℕ} 1 0). omega arith) e in
+      let (b, e₂) = first-none 2 (not (soundTest (F .base) s)) _ (λ (z : _≡_ {A = ℕ} 2 0). omega arith) e₁ in
+      soundTest-sound (F .base) s (fits s (bounds-of s e)) (not-is-false (soundTest (F .base) s) b)
+
+  -- each step of any task, with any numbers, from any tables: those that are damaged or out of bounds stay as they were
+  pub took-step : (s : Tables) (x : Step) → Took (F .base) s (actor x) (step F n s x .after)
+  took-step s x =
+      guarded-is (first (tableRows F n s)) s (raw F s x) (Took (F .base) s (actor x)) (stayed refl) (λ e. took-raw F s (fits s (bounds-of s e)) (sound-of s e) x)
 
   sound-by : (s s′ : Tables) (t : ℕ) → firstOwned + length (s .tasks) ≤ F .base → Sound (F .base) s → Took (F .base) s t s′ → Sound (F .base) s′
   sound-by s s′ t f sd (stayed e) = subst (Sound (F .base)) (sym e) sd
@@ -52,7 +61,7 @@ module _ (F : Form) (apart : Apart F) (n : ℕ) where
 
   pub good-step : (s : Tables) (x : Step) → Good F n s → Good F n (step F n s x .after)
   good-step s x g =
-      let (a, b) = lengths-by s (step F n s x .after) (actor x) (took-step s (g .sound) x) in
+      let (a, b) = lengths-by s (step F n s x .after) (actor x) (took-step s x) in
       record {
         bounds = subst₂ (λ (i j : ℕ). inBounds F i j n ≡ true) (sym a) (sym b) (g .bounds);
         sound = sound-kept s (g .sound) x;

@@ -10,6 +10,7 @@ pub mod SoundTest
 pub mod Accepted
 pub mod Kept
 pub mod Waiting
+pub mod Once
 pub mod InTurn
 pub mod Order
 pub mod Alarms

@@ -7,7 +7,7 @@ use mathlib.Core.Bool.{true}
 use Prim.Native.Nat.{ℕ, _+_, _*_, _≤_, _<_}
 use lib.Dec.{lit≤}
 use lib.ListN.{length}
-use Rattle.words.specs.Words.{Form, small, readyWord, firstOwned, ownedBy}
+use Rattle.words.specs.Words.{Form, small, unusedWord, readyWord, unmadeWord, firstOwned, ownedBy}
 use Rattle.words.specs.Lists.{In}
 use Rattle.rules.specs.Tables.{Tables, taskAt, promiseAt, liveTasks, fresh}
 use Rattle.rules.specs.Chains.{Chain, waits}
@@ -25,6 +25,7 @@ use Rattle.rules.proofs.Cases as cases
 use Rattle.rules.proofs.InTurn as in-turn
 use Rattle.rules.proofs.Kept as kept
 use Rattle.rules.proofs.Named as named
+use Rattle.rules.proofs.Once as once
 use Rattle.rules.proofs.Order as order
 use Rattle.rules.proofs.SoundTest as test
 use Rattle.rules.proofs.Waiting as waiting
@@ -127,6 +128,11 @@ module _ (F : Form) (apart : Apart F) (n : ℕ) (s : Tables) (good : Good F n s)
 pub sound-stays-sound : (F : Form) → Apart F → (n : ℕ) (s : Tables) → Sound (F .base) s → (x : Step) → Sound (F .base) (step F n s x .after)
 sound-stays-sound = kept.sound-kept
 
+-- "A number is used once in a session": from any tables, after any steps, a promise that was made is still made and a task that was used is still used
+pub a-number-is-used-once : (F : Form) → Apart F → (n : ℕ) (s : Tables) (xs : List Step)
+    → ((p : ℕ) → promiseAt s p ≢ unmadeWord → promiseAt (run F n s xs) p ≢ unmadeWord) × ((t : ℕ) → taskAt s t ≢ unusedWord → taskAt (run F n s xs) t ≢ unusedWord)
+a-number-is-used-once F apart n s xs = (once.promise-stays-made F apart n s xs, once.task-stays-used F apart n s xs)
+
 -- ---- DEMAND 3
 
 -- of any good tables
@@ -134,7 +140,7 @@ pub demand-3-of : (F : Form) → Apart F → (n : ℕ) (s : Tables) → Good F n
 demand-3-of F apart n s g = record {
   some-ready = waiting.some-ready (F .base) s (g .sound);
   one-chain = waiting.one-chain (F .base) s (g .sound);
-  kept = waiting.chain-kept F apart n s (g .sound);
+  kept = waiting.chain-kept F apart n s;
   in-turn = in-turn.ends-in-turn F apart n s g;
 }
 
