@@ -6,7 +6,6 @@ use mathlib.Core.List.{List, [], _∷_}
 use mathlib.Core.Bool.{Bool, true, false}
 use Prim.Native.Nat.{ℕ, zero, suc, _+_, _-_, _≤_, _<_}
 use native.Mathlib.Omega.{arith}
-use native.Mathlib.Decide.{ℕ-discrete}
 use lib.Dec.{eqb, ltb, leb}
 use borrow.Author.Tests.{eq-eqb, ne-eqb, lt-ltb, lt-leb}
 use lib.ListN.{length, set, length-set}
@@ -16,16 +15,17 @@ use Rattle.words.proofs.ListLaws.{within-table}
 use Rattle.rules.specs.Tables.{Tables, taskAt, promiseAt, liveTasks, awaitedBy, ownerOf}
 use Rattle.rules.specs.Chains.{Chain, here, link, chainEnd, view, graph, waits}
 use Rattle.rules.specs.Sound.{Sound}
-use Rattle.rules.specs.Refusals.{first, tableRows, getRows}
-use Rattle.rules.specs.Steps.{step-get, Outcome, outcome, withWait, Found, back, free, pairs, followed, got, guarded, rows, effect, raw, step}
-use Rattle.rules.specs.Demands.{Apart, Good, OwnersFrom, owners, Ring, closes, leads, Alarm}
+use Rattle.rules.specs.Refusals.{first, getRows}
+use Rattle.rules.specs.Steps.{step-get, Outcome, outcome, withWait, Found, back, free, pairs, followed, got, guarded, step}
+use Rattle.rules.specs.Demands.{Apart, Good, OwnersFrom, owners, Ring, closes, leads, Alarm, Wait}
 use Rattle.rules.specs.declared.Answer.{Answer}
 use Rattle.rules.specs.declared.Answer.the-variants.{Value, Blamed, Waits, Cycle, Refused}
 use Rattle.rules.proofs.Accepted.{owner-chain, got-back, got-free, got-is}
-use Rattle.rules.proofs.GraphLaws.{unique, ready-is-end, in-end}
+use Rattle.rules.proofs.GraphLaws.{unique, end-ready, ready-is-end, in-end}
 use Rattle.rules.proofs.Kept.{fits}
 use Rattle.rules.proofs.Moves.{det}
-use Rattle.rules.proofs.Order.{clash, guarded-none, guarded-some}
+use Rattle.rules.proofs.Named.{accepted}
+use Rattle.rules.proofs.Order.{clash}
 use Rattle.rules.proofs.RefusalLaws.{actorRows-none, getRows-none}
 use Rattle.rules.proofs.SoundTest.{chain-bound, live-yes, sound-soundTest}
 use Rattle.rules.proofs.StepMoves.{get-chain}
@@ -96,7 +96,7 @@ module _ (F : Form) (apart : Apart F) (n : ℕ) (s : Tables) (g : Good F n s) wh
             (get-chain (length (s .tasks)) (length (s .promises)) (F .base) f s (g .sound) t b r p u h o q b k c far),
       )
 
-  -- ---- and back: what an alarm means
+  -- ---- and back: what an alarm means, and a wait
 
   from-outcome : (t p k : ℕ) (o : Outcome) → taskAt s t ≡ readyWord → p < length (s .promises) → promiseAt s p ≢ unmadeWord
       → o ≡ got (F .base) s t p (promiseAt s p) → o .answer ≡ Cycle k → Alarm s t p k (o .words)
@@ -120,23 +120,40 @@ module _ (F : Form) (apart : Apart F) (n : ℕ) (s : Tables) (g : Good F n s) wh
       (λ u l b w c y (z : Waits (1 + length l) ≡ Cycle k). clash cc))
       a
 
-  guarded-cycle : (r : ℕ) (o : Outcome) (k : ℕ) → guarded r s o .answer ≡ Cycle k → r ≡ 0
-  guarded-cycle r o k e = go (ℕ-discrete r 0)
-    where
-      go : Dec (r ≡ 0) → r ≡ 0
-      go (yes z) = z
-      go (no m) = let x : Refused r ≡ Cycle k = sym (ap (λ (y : Outcome). y .answer) (guarded-some r s o m)) ∙ e in clash cc
+  -- a get that is not refused is one of a ready task, on a promise that was made
+  get-found : (t p : ℕ) (a : Answer) → ((q : ℕ) → Refused q ≡ a → ⊥) → step F n s (step-get t p) .answer ≡ a
+      → (taskAt s t ≡ readyWord) × (p < length (s .promises)) × (promiseAt s p ≢ unmadeWord) × (step F n s (step-get t p) ≡ got (F .base) s t p (promiseAt s p))
+  get-found t p a h e =
+      let (z, o) = accepted F n s (step-get t p) a h e in
+      let (act, z₁) = actorRows-none (s .tasks) t (getRows (s .promises) p) z in
+      let (b, m) = getRows-none (s .promises) p z₁ in
+      (act .ready, b, m, o)
 
   pub alarm-means : (t p k : ℕ) → step F n s (step-get t p) .answer ≡ Cycle k → Alarm s t p k (step F n s (step-get t p) .words)
   alarm-means t p k e =
-      let a = guarded-cycle (first (tableRows F n s)) (raw F s (step-get t p)) k e in
-      let o₁ = guarded-none (first (tableRows F n s)) s (raw F s (step-get t p)) a in
-      let e₁ : raw F s (step-get t p) .answer ≡ Cycle k = sym (ap (λ (y : Outcome). y .answer) o₁) ∙ e in
-      let b = guarded-cycle (first (rows F s (step-get t p))) (effect F s (step-get t p)) k e₁ in
-      let o₂ = guarded-none (first (rows F s (step-get t p))) s (effect F s (step-get t p)) b in
-      let (act, b₁) = actorRows-none (s .tasks) t (getRows (s .promises) p) b in
-      let (h, m) = getRows-none (s .promises) p b₁ in
-      from-outcome t p k (step F n s (step-get t p)) (act .ready) h m (o₁ ∙ o₂) e
+      let (r, h, m, o) = get-found t p (Cycle k) (λ q (y : Refused q ≡ Cycle k). clash cc) e in
+      from-outcome t p k (step F n s (step-get t p)) r h m o e
+
+  -- and what a wait means
+  pub wait-means : (t p k : ℕ) → step F n s (step-get t p) .answer ≡ Waits k → Wait s t p k
+  unfolding followed
+  wait-means t p k e =
+      let (r, h, m, o) = get-found t p (Waits k) (λ q (y : Refused q ≡ Waits k). clash cc) e in
+      got-is F s (fits F apart n s (g .bounds)) (g .sound) t p (λ (x : Outcome). x .answer ≡ Waits k → Wait s t p k) r h m
+      (λ x (z : Value ≡ Waits k). clash cc)
+      (λ b y x (z : Blamed b ≡ Waits k). clash cc)
+      (λ u l b w c y (z : Cycle (1 + length l) ≡ Waits k). clash cc)
+      (λ u l b w c y (z : Waits (1 + length l) ≡ Waits k).
+      let x : 1 + length l ≡ k = cc in
+      record {
+        ready = r;
+        links = u ∷ l;
+        owners = owners b w c;
+        end-ready = end-ready (waits s) c;
+        not-back = λ i. y (sym (ready-is-end (waits s) (det (length (s .tasks)) (view s)) c i r));
+        count = omega arith;
+      })
+      (sym (ap (λ (x : Outcome). x .answer) o) ∙ e)
 
   -- an alarm changes no table
   pub alarm-unchanged : (t p k : ℕ) → step F n s (step-get t p) .answer ≡ Cycle k → step F n s (step-get t p) .after ≡ s

@@ -13,7 +13,7 @@ pub mod Waiting
 pub mod Once
 pub mod InTurn
 pub mod Order
-pub mod Alarms
 pub mod Named
+pub mod Alarms
 pub mod Policy
 pub mod Promises

@@ -15,7 +15,7 @@ use Rattle.rules.specs.Sound.{Sound, soundTest}
 use Rattle.rules.specs.Refusals.{tableRows, entryRows}
 use Rattle.rules.specs.Steps.{Step, step-set, step-get, step-async, step-end, Outcome, outcome, withWait, pairs, rows, step, run}
 use Rattle.rules.specs.ProvedSet.{provedSet, taken, expected}
-use Rattle.rules.specs.Demands.{Apart, Good, numbers, paperRows, paperEntryRows, FirstGiven, NoneGiven, BadPlace, Refusal, OwnersFrom, Alarm, Named, Woken, Demand3}
+use Rattle.rules.specs.Demands.{Apart, Good, numbers, paperRows, paperEntryRows, FirstGiven, NoneGiven, BadPlace, Refusal, OwnersFrom, Alarm, Wait, Named, Woken, Demand3}
 use Rattle.rules.specs.Contracts.{Gives}
 use Rattle.rules.specs.Sessions.{Freshens}
 use Rattle.rules.specs.declared.Answer.{Answer}
@@ -105,6 +105,10 @@ module _ (F : Form) (apart : Apart F) (n : ℕ) (s : Tables) (good : Good F n s)
   pub waits-if-not-back : (t p : ℕ) (l : List ℕ) → taskAt s t ≡ readyWord → OwnersFrom s p l → (In t l → ⊥)
       → (step F n s (step-get t p) ≡ outcome (Waits (length l)) (withWait s t p) []) × Chain (waits (withWait s t p)) t l
   waits-if-not-back = alarms.get-waits F apart n s good
+
+  -- and only then: the owners reached are as many as it answers, come to a ready task and do not lead back to the asker
+  pub waits-only-if-not-back : (t p k : ℕ) → step F n s (step-get t p) .answer ≡ Waits k → Wait s t p k
+  waits-only-if-not-back = alarms.wait-means F apart n s good
 
   -- the owners from a promise: one list for each owned promise, with at most as many as there are live tasks
   pub owners-exist : (p u : ℕ) → u < length (s .tasks) → promiseAt s p ≡ ownedBy u → (l : List ℕ) × OwnersFrom s p l

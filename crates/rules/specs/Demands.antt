@@ -7,7 +7,7 @@
 --   Refusal a                           the answer a is a refusal
 --   OwnersFrom s p l                    l are the owners that follow from p, to a ready task
 --   Ring s t p l ws                     ws are the pairs of the ring that t would close by waiting on p
---   Alarm, Named, Woken, Demand3        what an alarm, an end, a set means; demand 3
+--   Alarm, Wait, Named, Woken, Demand3  what an alarm, a wait, an end, a set means; demand 3
 -- Assumes nothing.
 use mathlib.Core.Path.{_≡_}
 use mathlib.Core.Logic.{_⊎_, _≢_}
@@ -89,6 +89,15 @@ pub record Alarm (s : Tables) (t p k : ℕ) (ws : List ℕ) : Type 0 where
   pub back : chainEnd t links ≡ t
   pub count : k ≡ length links
   pub ring : Ring s t p links ws
+
+-- t gets p and waits after k owners: t is ready and not refused, and the owners from p come to a ready task without leading back to t
+pub record Wait (s : Tables) (t p k : ℕ) : Type 0 where
+  pub ready : taskAt s t ≡ readyWord
+  pub links : List ℕ
+  pub owners : OwnersFrom s p links
+  pub end-ready : taskAt s (chainEnd t links) ≡ readyWord
+  pub not-back : In t links → ⊥
+  pub count : k ≡ length links
 
 -- "A task that ends still owning promises is named for exactly those": m promises, then n tasks
 pub record Named (B : ℕ) (s : Tables) (t m n : ℕ) (o : Outcome) : Type 0 where
