@@ -120,11 +120,12 @@ module _ (F : Form) (apart : Apart F) (n : ℕ) (s : Tables) (good : Good F n s)
   pub owners-at-most-live : (p : ℕ) (l : List ℕ) → OwnersFrom s p l → length l ≤ liveTasks s
   owners-at-most-live = alarms.owners-bound s
 
-  -- "A task that ends still owning promises is named for exactly those."
+  -- "A task that ends still owning promises is named for exactly those": these become blamed on it, who waited on them becomes ready, it has ended, and no other word
+  -- changes
   pub named-for-exactly-those : (t m k : ℕ) → step F n s (step-end t) .answer ≡ Ended m k → Named (F .base) s t m k (step F n s (step-end t))
   named-for-exactly-those = named.end-names F n s (good .sound)
 
-  -- a set makes ready exactly those who waited on it
+  -- a set makes ready exactly those who waited on it; it is set, and no other word changes
   pub wakes-exactly-those : (t p m : ℕ) → step F n s (step-set t p) .answer ≡ Set m → Woken s p m (step F n s (step-set t p))
   wakes-exactly-those = named.set-wakes F n s
 
