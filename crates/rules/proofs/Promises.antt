@@ -13,13 +13,14 @@ use Rattle.rules.specs.Tables.{Tables, taskAt, promiseAt, liveTasks, fre
 use Rattle.rules.specs.Chains.{Chain, waits}
 use Rattle.rules.specs.Sound.{Sound, soundTest}
 use Rattle.rules.specs.Refusals.{tableRows, entryRows}
-use Rattle.rules.specs.Steps.{Step, step-set, step-get, step-async, step-end, Outcome, outcome, withWait, pairs, rows, step, run}
+use Rattle.rules.specs.Steps.{Step, step-new, step-set, step-get, step-async, step-end, Outcome, outcome, withWait, pairs, rows, step, run}
 use Rattle.rules.specs.ProvedSet.{provedSet, taken, expected}
 use Rattle.rules.specs.Demands.{Apart, Good, numbers, paperRows, paperEntryRows, FirstGiven, NoneGiven, BadPlace, Refusal, OwnersFrom, Alarm, Wait, Named, Woken, Demand3}
+use Rattle.rules.specs.Published.{NewRule, SetRule, SpawnRule, GetRule, EndRule, Asserted}
 use Rattle.rules.specs.Contracts.{Gives}
 use Rattle.rules.specs.Sessions.{Freshens}
 use Rattle.rules.specs.declared.Answer.{Answer}
-use Rattle.rules.specs.declared.Answer.the-variants.{Set, Waits, Cycle, Ended, Refused, RefusedAt}
+use Rattle.rules.specs.declared.Answer.the-variants.{Made, Set, Waits, Cycle, Started, Ended, Refused, RefusedAt}
 use Rattle.rules.proofs.Alarms as alarms
 use Rattle.rules.proofs.Cases as cases
 use Rattle.rules.proofs.InTurn as in-turn
@@ -27,6 +28,7 @@ use Rattle.rules.proofs.Kept as kept
 use Rattle.rules.proofs.Named as named
 use Rattle.rules.proofs.Once as once
 use Rattle.rules.proofs.Order as order
+use Rattle.rules.proofs.Policy as policy
 use Rattle.rules.proofs.SoundTest as test
 use Rattle.rules.proofs.Waiting as waiting
 
@@ -87,6 +89,29 @@ one-outcome g h = (g .answer ∙ sym (h .answer), g .tasks ∙ sym (h .tasks), g
 
 pub one-freshening : {F : Form} {s : Tables} {r r′ : ℕ} {ts ts′ ps ps′ : List ℕ} → Freshens F s r ts ps → Freshens F s r′ ts′ ps′ → (r ≡ r′) × (ts ≡ ts′) × (ps ≡ ps′)
 one-freshening g h = (g .number ∙ sym (h .number), g .tasks ∙ sym (h .tasks), g .promises ∙ sym (h .promises))
+
+-- ---- the published policy (specs/Published.antt)
+
+module _ (F : Form) (n : ℕ) (s : Tables) where
+  -- an accepted step does what the rules of 001, section 3.2, say
+  pub new-by-the-policy : (t p : ℕ) → step F n s (step-new t p) .answer ≡ Made → NewRule s (step F n s (step-new t p) .after) t p
+  new-by-the-policy = policy.new-rule F n s
+
+  pub set-by-the-policy : (t p m : ℕ) → step F n s (step-set t p) .answer ≡ Set m → SetRule s (step F n s (step-set t p) .after) t p
+  set-by-the-policy = policy.set-rule F n s
+
+  pub async-by-the-policy : (t c : ℕ) (list : List ℕ) → step F n s (step-async t c list) .answer ≡ Started → SpawnRule s (step F n s (step-async t c list) .after) t c list
+  async-by-the-policy = policy.spawn-rule F n s
+
+  pub get-by-the-policy : (t p : ℕ) (a : Answer) → ((r : ℕ) → Refused r ≡ a → ⊥) → step F n s (step-get t p) .answer ≡ a → GetRule s (step F n s (step-get t p) .after) p a
+  get-by-the-policy = policy.get-rule F n s
+
+  pub end-by-the-policy : (t m k : ℕ) → step F n s (step-end t) .answer ≡ Ended m k → EndRule s (step F n s (step-end t) .after) t
+  end-by-the-policy = policy.end-rule F n s
+
+  -- a step whose rules assert what does not hold is refused
+  pub forbidden-is-refused : (x : Step) → (Asserted s x → ⊥) → Refusal (step F n s x .answer)
+  forbidden-is-refused = policy.forbidden-refused F n s
 
 -- ---- DEMAND 2
 
