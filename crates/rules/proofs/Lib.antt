@@ -10,10 +10,10 @@ pub mod SoundTest
 pub mod Accepted
 pub mod Kept
 pub mod Waiting
-pub mod Once
 pub mod InTurn
 pub mod Order
 pub mod Named
 pub mod Alarms
 pub mod Policy
+pub mod Once
 pub mod Promises

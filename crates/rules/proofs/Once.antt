@@ -1,19 +1,22 @@
 -- "A number is used once in a session": no step turns a word that is not 0 into 0, since no move does. So what was made or used stays so after any steps, from
--- any tables. Assumes nothing.
+-- any tables, and is not made or started again. Assumes nothing.
 use mathlib.Core.Path.{_≡_, sym, ap, _∙_}
-use mathlib.Core.Logic.{_≢_}
+use mathlib.Core.Logic.{_⊎_, inr, _≢_}
 use mathlib.Core.List.{List, [], _∷_}
-use Prim.Native.Nat.{ℕ, _+_, _≤_, _<_}
+use Prim.Native.Nat.{ℕ, _≤_}
 use native.Mathlib.Omega.{arith}
 use lib.ListN.{length}
 use Rattle.words.specs.Words.{Form, unusedWord, unmadeWord, firstOwned}
 use Rattle.rules.specs.Tables.{Tables, taskAt, promiseAt}
 use Rattle.rules.specs.Chains.{View, view}
-use Rattle.rules.specs.Steps.{Step, actor, step, run}
-use Rattle.rules.specs.Demands.{Apart}
+use Rattle.rules.specs.Refusals.{first, childRows}
+use Rattle.rules.specs.Steps.{Step, step-new, step-async, actor, rows, effect, step, run}
+use Rattle.rules.specs.Demands.{Apart, Refusal}
 use Rattle.rules.proofs.Accepted.{Took, stayed, moved}
 use Rattle.rules.proofs.Kept.{took-step}
 use Rattle.rules.proofs.Moves.{TaskMove, t-same, t-woken, t-started, t-ended, t-waits, PromiseMove, p-same, p-made, p-set, p-blamed, p-moved}
+use Rattle.rules.proofs.Policy.{refused-or, refused-unless, forbidden-refused}
+use Rattle.rules.proofs.RefusalLaws.{actorRows-none, childRows-none}
 
 -- ---- one word
 
@@ -59,3 +62,22 @@ module _ (F : Form) (apart : Apart F) (n : ℕ) where
   pub promise-stays-made : (s : Tables) (xs : List Step) (p : ℕ) → promiseAt s p ≢ unmadeWord → promiseAt (run F n s xs) p ≢ unmadeWord
   promise-stays-made s [] p h = h
   promise-stays-made s (x ∷ xs) p h = promise-stays-made (step F n s x .after) xs p (promise-step-made s x p h)
+
+  -- ---- and so it is not made or started again
+
+  -- a new of a promise that was made is refused, after any steps
+  pub made-once : (s : Tables) (p : ℕ) → promiseAt s p ≢ unmadeWord → (xs : List Step) (t : ℕ) → Refusal (step F n (run F n s xs) (step-new t p) .answer)
+  made-once s p h xs t = forbidden-refused F n (run F n s xs) (step-new t p) (λ fresh. fresh (promise-stays-made s xs p h))
+
+  -- an async of a child that was used is refused
+  used-refused : (s : Tables) (t c : ℕ) (list : List ℕ) → taskAt s c ≢ unusedWord → Refusal (step F n s (step-async t c list) .answer)
+  used-refused s t c list h = refused-unless (refused-or F n s (step-async t c list) (taskAt s c ≡ unusedWord) unused) h
+    where
+      unused : first (rows F s (step-async t c list)) ≡ 0 → Refusal (effect F s (step-async t c list) .answer) ⊎ (taskAt s c ≡ unusedWord)
+      unused z =
+          let (act, z₁) = actorRows-none (s .tasks) t (childRows (s .tasks) c) z in
+          inr (childRows-none (s .tasks) c z₁ .1)
+
+  -- and so after any steps
+  pub started-once : (s : Tables) (c : ℕ) → taskAt s c ≢ unusedWord → (xs : List Step) (t : ℕ) (list : List ℕ) → Refusal (step F n (run F n s xs) (step-async t c list) .answer)
+  started-once s c h xs t list = used-refused (run F n s xs) t c list (task-stays-used s xs c h)

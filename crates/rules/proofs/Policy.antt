@@ -1,7 +1,7 @@
 -- The steps against the published ownership policy (specs/Published.antt): an accepted step does what the policy's rules say, and one whose rules assert what does
 -- not hold is refused. Assumes nothing.
 use mathlib.Core.Path.{_≡_, refl, sym, ap, subst, _∙_}
-use mathlib.Core.Logic.{_⊎_, inl, inr, ⊎-elim, _≢_}
+use mathlib.Core.Logic.{_⊎_, inl, inr, _≢_}
 use mathlib.Core.List.{List, [], _∷_}
 use mathlib.Core.Bool.{Bool, true, false, cond}
 use Prim.Native.Nat.{ℕ, _-_, _≤_, _<_}
@@ -174,15 +174,21 @@ asserts F s (step-get t p) z =
 asserts F s (step-async t c list) z = started-asserts (F .base) s t c list
 asserts F s (step-end t) z = inr tt
 
-guarded-asserts : (r : ℕ) (s : Tables) (o : Outcome) (A : Type 0) → (r ≡ 0 → Refusal (o .answer) ⊎ A) → Refusal (guarded r s o .answer) ⊎ A
-guarded-asserts r s o A h = go (ℕ-discrete r 0)
+-- a step is refused, or A holds, if A holds wherever no row applies and no entry is refused
+pub refused-or : (F : Form) (n : ℕ) (s : Tables) (x : Step) (A : Type 0) → (first (rows F s x) ≡ 0 → Refusal (effect F s x .answer) ⊎ A) → Refusal (step F n s x .answer) ⊎ A
+refused-or F n s x A h = by (first (tableRows F n s)) (raw F s x) (λ z. by (first (rows F s x)) (effect F s x) h)
   where
-    go : Dec (r ≡ 0) → Refusal (guarded r s o .answer) ⊎ A
-    go (yes z) = subst (λ (x : Outcome). Refusal (x .answer) ⊎ A) (sym (guarded-none r s o z)) (h z)
-    go (no m) = inl (subst (λ (x : Outcome). Refusal (x .answer)) (sym (guarded-some r s o m)) (plain r))
+    by : (r : ℕ) (o : Outcome) → (r ≡ 0 → Refusal (o .answer) ⊎ A) → Refusal (guarded r s o .answer) ⊎ A
+    by r o k = go (ℕ-discrete r 0)
+      where
+        go : Dec (r ≡ 0) → Refusal (guarded r s o .answer) ⊎ A
+        go (yes z) = subst (λ (y : Outcome). Refusal (y .answer) ⊎ A) (sym (guarded-none r s o z)) (k z)
+        go (no m) = inl (subst (λ (y : Outcome). Refusal (y .answer)) (sym (guarded-some r s o m)) (plain r))
+
+pub refused-unless : {R A : Type 0} → R ⊎ A → (A → ⊥) → R
+refused-unless (inl r) h = r
+refused-unless (inr a) h = absurd (h a)
 
 -- a step whose rules assert what does not hold is refused, from any tables
 pub forbidden-refused : (F : Form) (n : ℕ) (s : Tables) (x : Step) → (Asserted s x → ⊥) → Refusal (step F n s x .answer)
-forbidden-refused F n s x no-assert =
-    ⊎-elim (λ (r : Refusal (step F n s x .answer)). r) (λ (a : Asserted s x). absurd (no-assert a))
-    (guarded-asserts (first (tableRows F n s)) s (raw F s x) (Asserted s x) (λ z. guarded-asserts (first (rows F s x)) s (effect F s x) (Asserted s x) (asserts F s x)))
+forbidden-refused F n s x h = refused-unless (refused-or F n s x (Asserted s x) (asserts F s x)) h

@@ -163,6 +163,15 @@ pub a-number-is-used-once : (F : Form) → Apart F → (n : ℕ) (s : Tables) (x
     → ((p : ℕ) → promiseAt s p ≢ unmadeWord → promiseAt (run F n s xs) p ≢ unmadeWord) × ((t : ℕ) → taskAt s t ≢ unusedWord → taskAt (run F n s xs) t ≢ unusedWord)
 a-number-is-used-once F apart n s xs = (once.promise-stays-made F apart n s xs, once.task-stays-used F apart n s xs)
 
+-- so that the promise is not made again, and the task not started again
+pub not-made-again : (F : Form) → Apart F → (n : ℕ) (s : Tables) (p : ℕ) → promiseAt s p ≢ unmadeWord → (xs : List Step) (t : ℕ)
+    → Refusal (step F n (run F n s xs) (step-new t p) .answer)
+not-made-again = once.made-once
+
+pub not-started-again : (F : Form) → Apart F → (n : ℕ) (s : Tables) (c : ℕ) → taskAt s c ≢ unusedWord → (xs : List Step) (t : ℕ) (list : List ℕ)
+    → Refusal (step F n (run F n s xs) (step-async t c list) .answer)
+not-started-again = once.started-once
+
 -- ---- DEMAND 3
 
 -- of any good tables
