@@ -12,6 +12,7 @@ use Rattle.words.specs.Lists.{In}
 use Rattle.rules.specs.Tables.{Tables, taskAt, promiseAt, liveTasks, fresh}
 use Rattle.rules.specs.Chains.{Chain, waits}
 use Rattle.rules.specs.Sound.{Sound, soundTest}
+use Rattle.rules.specs.Answers.{numberOf, valuesOf}
 use Rattle.rules.specs.Refusals.{tableRows, entryRows}
 use Rattle.rules.specs.Steps.{Step, step-new, step-set, step-get, step-async, step-end, Outcome, outcome, withWait, pairs, rows, step, run}
 use Rattle.rules.specs.ProvedSet.{provedSet, taken, expected}
@@ -73,6 +74,17 @@ module _ (F : Form) (n : ℕ) (s : Tables) where
   pub the-first-entry-refuses : (t c : ℕ) (list : List ℕ) (r i : ℕ) → NoneGiven (tableRows F n s ++ rows F s (step-async t c list)) → BadPlace (F .base) (s .promises) t list r i
       → step F n s (step-async t c list) ≡ outcome (RefusedAt r i) s []
   the-first-entry-refuses = order.first-placed F n s
+
+  -- the number of the answer (specs/Answers.antt) is then r, and the place its one value; an answer that is no refusal has a number from 100 on
+  pub refused-by-number : (x : Step) (r : ℕ) → FirstGiven r (tableRows F n s ++ rows F s x) → (numberOf (step F n s x .answer) ≡ r) × (valuesOf (step F n s x .answer) ≡ [])
+  refused-by-number = order.first-number F n s
+
+  pub entry-refused-by-number : (t c : ℕ) (list : List ℕ) (r i : ℕ) → NoneGiven (tableRows F n s ++ rows F s (step-async t c list)) → BadPlace (F .base) (s .promises) t list r i
+      → (numberOf (step F n s (step-async t c list) .answer) ≡ r) × (valuesOf (step F n s (step-async t c list) .answer) ≡ i ∷ [])
+  entry-refused-by-number = order.placed-number F n s
+
+  pub a-number-below-100-refuses : (x : Step) → numberOf (step F n s x .answer) < 100 → Refusal (step F n s x .answer)
+  a-number-below-100-refuses x = order.number-refuses (step F n s x .answer)
 
   -- a place is at most P, however long the list is
   pub a-place-is-at-most-P : (t c : ℕ) (list : List ℕ) (r i : ℕ) → step F n s (step-async t c list) .answer ≡ RefusedAt r i → i ≤ length (s .promises)
