@@ -16,4 +16,5 @@ pub mod Named
 pub mod Alarms
 pub mod Policy
 pub mod Once
+pub mod Blocked
 pub mod Promises

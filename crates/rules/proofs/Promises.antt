@@ -1,15 +1,15 @@
 -- The page of promises: what the rules promise, each in one statement whose proof is a name. The definitions that it speaks of stand in specs/; no other proof
 -- file has to be read. F is any form whose owned and blamed words do not meet (`small` is one), n the report's length, s any tables. Assumes nothing.
 use mathlib.Core.Path.{_≡_, refl, sym, _∙_}
-use mathlib.Core.Logic.{_≢_}
+use mathlib.Core.Logic.{_⊎_, _≢_}
 use mathlib.Core.List.{List, [], _∷_, _++_, map}
 use mathlib.Core.Bool.{true}
 use Prim.Native.Nat.{ℕ, _+_, _*_, _≤_, _<_}
 use lib.Dec.{lit≤}
 use lib.ListN.{length}
-use Rattle.words.specs.Words.{Form, small, unusedWord, readyWord, unmadeWord, firstOwned, ownedBy}
+use Rattle.words.specs.Words.{Form, small, unusedWord, readyWord, waitsOn, unmadeWord, firstOwned, ownedBy}
 use Rattle.words.specs.Lists.{In}
-use Rattle.rules.specs.Tables.{Tables, taskAt, promiseAt, liveTasks, fresh}
+use Rattle.rules.specs.Tables.{Tables, taskAt, promiseAt, liveTasks, closed, fresh}
 use Rattle.rules.specs.Chains.{Chain, waits}
 use Rattle.rules.specs.Sound.{Sound, soundTest}
 use Rattle.rules.specs.Answers.{numberOf, valuesOf}
@@ -23,6 +23,7 @@ use Rattle.rules.specs.Sessions.{Freshens}
 use Rattle.rules.specs.declared.Answer.{Answer}
 use Rattle.rules.specs.declared.Answer.the-variants.{Made, Set, Waits, Cycle, Started, Ended, Refused, RefusedAt}
 use Rattle.rules.proofs.Alarms as alarms
+use Rattle.rules.proofs.Blocked as blocked
 use Rattle.rules.proofs.Cases as cases
 use Rattle.rules.proofs.InTurn as in-turn
 use Rattle.rules.proofs.Kept as kept
@@ -124,6 +125,11 @@ module _ (F : Form) (n : ℕ) (s : Tables) where
   -- a step whose rules assert what does not hold is refused
   pub forbidden-is-refused : (x : Step) → (Asserted s x → ⊥) → Refusal (step F n s x .answer)
   forbidden-is-refused = policy.forbidden-refused F n s
+
+  -- 000, Definition 2.1: "get p blocks the current task until after set p": a step leaves the word of a task that waits on p, or closes p and makes the task ready
+  pub blocks-until-closed : (v p : ℕ) → taskAt s v ≡ waitsOn p → (x : Step)
+      → (taskAt (step F n s x .after) v ≡ waitsOn p) ⊎ ((taskAt (step F n s x .after) v ≡ readyWord) × (closed (F .base) (promiseAt (step F n s x .after) p) ≡ true))
+  blocks-until-closed v p w x = blocked.blocks F s v p w n x
 
 -- ---- DEMAND 2
 
