@@ -11,10 +11,10 @@ use lib.Dec.{eqb, leb, ltb}
 use borrow.Author.Tests.{eqb-true, eq-eqb, ltb-false}
 use lib.ListN.{length, getD, set}
 use lib.Seq.{getD-set-same, getD-set-other, lt-length-set}
-use Rattle.words.specs.Words.{Form, unmadeWord, setWord, firstOwned, ownedBy}
+use Rattle.words.specs.Words.{Form, readyWord, unmadeWord, setWord, firstOwned, ownedBy}
 use Rattle.words.specs.Lists.{In, top, pop}
-use Rattle.rules.specs.Tables.{Tables, promiseAt}
-use Rattle.rules.specs.Refusals.{first, tableRows, entryRefusal, firstBad, newRows, getRows, ownRows}
+use Rattle.rules.specs.Tables.{Tables, taskAt, promiseAt}
+use Rattle.rules.specs.Refusals.{first, tableRows, entryRefusal, firstBad, newRows, getRows, ownRows, childRows}
 use Rattle.rules.specs.Steps.{Step, step-new, step-set, step-get, step-async, step-end, Outcome, outcome, given, withStarted, Found, astray, back, free, walk, followed, got, guarded, started, rows, effect, raw, step}
 use Rattle.rules.specs.Demands.{Refusal, plain, placed}
 use Rattle.rules.specs.Published.{NewRule, SetRule, SpawnRule, GetRule, EndRule, Asserted}
@@ -23,7 +23,7 @@ use Rattle.rules.specs.declared.Answer.the-variants.{Made, Set, Value, B
 use Rattle.rules.proofs.Accepted.{entries-good}
 use Rattle.rules.proofs.Named.{accepted}
 use Rattle.rules.proofs.Order.{clash, got-cases, guarded-none, guarded-some}
-use Rattle.rules.proofs.RefusalLaws.{actorRows-none, newRows-none, getRows-none, ownRows-none}
+use Rattle.rules.proofs.RefusalLaws.{actorRows-none, childRows-none, newRows-none, getRows-none, ownRows-none}
 use Rattle.rules.proofs.StepMoves.{read-given, blame-miss}
 
 pub new-rule : (F : Form) (n : ℕ) (s : Tables) (t p : ℕ) → step F n s (step-new t p) .answer ≡ Made → NewRule s (step F n s (step-new t p) .after) t p
@@ -33,6 +33,10 @@ new-rule F n s t p e =
     let (h, w) = newRows-none (s .promises) p z₁ in
     subst (λ (x : Outcome). NewRule s (x .after) t p) (sym o)
     (record { fresh = λ d. d w; owner = getD-set-same (s .promises) p (ownedBy t) 0 h; others = λ q m. getD-set-other (s .promises) p q (ownedBy t) 0 m })
+
+-- and no task's word changes
+pub new-tasks : (F : Form) (n : ℕ) (s : Tables) (t p : ℕ) → step F n s (step-new t p) .answer ≡ Made → step F n s (step-new t p) .after .tasks ≡ s .tasks
+new-tasks F n s t p e = let (z, o) = accepted F n s (step-new t p) Made (λ q (y : Refused q ≡ Made). clash cc) e in ap (λ (x : Outcome). x .after .tasks) o
 
 pub set-rule : (F : Form) (n : ℕ) (s : Tables) (t p m : ℕ) → step F n s (step-set t p) .answer ≡ Set m → SetRule s (step F n s (step-set t p) .after) t p
 set-rule F n s t p m e =
@@ -101,6 +105,16 @@ module _ (F : Form) (n : ℕ) (s : Tables) (t c : ℕ) (list : List ℕ) where
         handed = λ q i. given-in (ownedBy c) list (s .promises) (λ x k. good x k .0) q (inr i) (good q i .0);
         others = λ q m. given-out (ownedBy c) list (s .promises) (λ x k. good x k .0) q m;
       })
+
+  -- the child is ready, and no other task's word changes
+  pub spawn-tasks : step F n s (step-async t c list) .answer ≡ Started
+      → (taskAt (step F n s (step-async t c list) .after) c ≡ readyWord) × ((v : ℕ) → v ≢ c → taskAt (step F n s (step-async t c list) .after) v ≡ taskAt s v)
+  spawn-tasks e =
+      let (z, o) = accepted F n s (step-async t c list) Started (λ q (y : Refused q ≡ Started). clash cc) e in
+      let (h, a) = started-good (sym (ap (λ (x : Outcome). x .answer) o) ∙ e) in
+      let (act, z₁) = actorRows-none (s .tasks) t (childRows (s .tasks) c) z in
+      subst (λ (x : Tables). (taskAt x c ≡ readyWord) × ((v : ℕ) → v ≢ c → taskAt x v ≡ taskAt s v)) (sym (ap (λ (x : Outcome). x .after) o ∙ a))
+      (getD-set-same (s .tasks) c readyWord 0 (childRows-none (s .tasks) c z₁ .0), λ v m. getD-set-other (s .tasks) c v readyWord 0 m)
 
 -- a get answers value only where the word is that of a set promise
 value-set : (B : ℕ) (s : Tables) (t p w : ℕ) → got B s t p w .answer ≡ Value → w ≡ setWord

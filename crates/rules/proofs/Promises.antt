@@ -7,7 +7,7 @@ use mathlib.Core.Bool.{true}
 use Prim.Native.Nat.{ℕ, _+_, _*_, _≤_, _<_}
 use lib.Dec.{lit≤}
 use lib.ListN.{length}
-use Rattle.words.specs.Words.{Form, small, unusedWord, readyWord, waitsOn, unmadeWord, firstOwned, ownedBy}
+use Rattle.words.specs.Words.{Form, small, unusedWord, readyWord, waitsOn, unmadeWord, setWord, firstOwned, ownedBy, blamedOn}
 use Rattle.words.specs.Lists.{In}
 use Rattle.rules.specs.Tables.{Tables, taskAt, promiseAt, liveTasks, closed, fresh}
 use Rattle.rules.specs.Chains.{Chain, waits}
@@ -21,7 +21,7 @@ use Rattle.rules.specs.Published.{NewRule, SetRule, SpawnRule, GetRule, 
 use Rattle.rules.specs.Contracts.{Gives}
 use Rattle.rules.specs.Sessions.{Freshens}
 use Rattle.rules.specs.declared.Answer.{Answer}
-use Rattle.rules.specs.declared.Answer.the-variants.{Made, Set, Waits, Cycle, Started, Ended, Refused, RefusedAt}
+use Rattle.rules.specs.declared.Answer.the-variants.{Made, Set, Value, Blamed, Waits, Cycle, Started, Ended, Refused, RefusedAt}
 use Rattle.rules.proofs.Alarms as alarms
 use Rattle.rules.proofs.Blocked as blocked
 use Rattle.rules.proofs.Cases as cases
@@ -122,6 +122,14 @@ module _ (F : Form) (n : ℕ) (s : Tables) where
   pub end-by-the-policy : (t m k : ℕ) → step F n s (step-end t) .answer ≡ Ended m k → EndRule s (step F n s (step-end t) .after) t
   end-by-the-policy = policy.end-rule F n s
 
+  -- of the tasks a new changes no word, and an async makes the child ready and changes no other word
+  pub new-changes-no-task : (t p : ℕ) → step F n s (step-new t p) .answer ≡ Made → step F n s (step-new t p) .after .tasks ≡ s .tasks
+  new-changes-no-task = policy.new-tasks F n s
+
+  pub async-starts-the-child : (t c : ℕ) (list : List ℕ) → step F n s (step-async t c list) .answer ≡ Started
+      → (taskAt (step F n s (step-async t c list) .after) c ≡ readyWord) × ((v : ℕ) → v ≢ c → taskAt (step F n s (step-async t c list) .after) v ≡ taskAt s v)
+  async-starts-the-child = policy.spawn-tasks F n s
+
   -- a step whose rules assert what does not hold is refused
   pub forbidden-is-refused : (x : Step) → (Asserted s x → ⊥) → Refusal (step F n s x .answer)
   forbidden-is-refused = policy.forbidden-refused F n s
@@ -134,6 +142,19 @@ module _ (F : Form) (n : ℕ) (s : Tables) where
 -- ---- DEMAND 2
 
 module _ (F : Form) (apart : Apart F) (n : ℕ) (s : Tables) (good : Good F n s) where
+  -- "if p is set, answer value. If p is blamed on b, answer blamed b": exactly then, and nothing changes
+  pub value-if-set : (t p : ℕ) → taskAt s t ≡ readyWord → promiseAt s p ≡ setWord → step F n s (step-get t p) ≡ outcome Value s []
+  value-if-set = alarms.get-value F apart n s good
+
+  pub only-if-set : (t p : ℕ) → step F n s (step-get t p) .answer ≡ Value → (taskAt s t ≡ readyWord) × (promiseAt s p ≡ setWord)
+  only-if-set = alarms.value-means F apart n s good
+
+  pub blamed-if-blamed : (t p b : ℕ) → taskAt s t ≡ readyWord → promiseAt s p ≡ blamedOn (F .base) b → step F n s (step-get t p) ≡ outcome (Blamed b) s []
+  blamed-if-blamed = alarms.get-blamed F apart n s good
+
+  pub only-if-blamed : (t p b : ℕ) → step F n s (step-get t p) .answer ≡ Blamed b → (taskAt s t ≡ readyWord) × (promiseAt s p ≡ blamedOn (F .base) b)
+  only-if-blamed = alarms.blamed-means F apart n s good
+
   -- "A get alarms exactly when the chain of owners and waits leads back to the asker", and then reports that ring and changes no table
   pub alarms-if-back : (t p : ℕ) (l : List ℕ) → taskAt s t ≡ readyWord → OwnersFrom s p l → In t l → step F n s (step-get t p) ≡ outcome (Cycle (length l)) s (pairs (length l) s t p)
   alarms-if-back = alarms.get-alarms F apart n s good
