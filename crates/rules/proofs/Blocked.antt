@@ -1,13 +1,13 @@
 -- A get blocks until the promise is closed (000, Definition 2.1; 001, section 3.2, rule 3): in any tables a step leaves the word of a task that waits on p, or closes
 -- p and makes the task ready. By the five steps in turn. Assumes nothing.
-use mathlib.Core.Path.{_≡_, refl, ap, _∙_}
+use mathlib.Core.Path.{_≡_, ap, _∙_}
 use mathlib.Core.Logic.{_⊎_, inl, inr, _≢_}
-use mathlib.Core.List.{List, [], _∷_}
+use mathlib.Core.List.{List, []}
 use mathlib.Core.Bool.{Bool, true, false, cond}
-use Prim.Native.Nat.{ℕ, _+_, _≤_}
+use Prim.Native.Nat.{ℕ}
 use native.Mathlib.Omega.{arith}
 use native.Mathlib.Decide.{ℕ-discrete}
-use lib.Dec.{eqb, leb, ltb}
+use lib.Dec.{eqb, ltb}
 use borrow.Author.Tests.{eq-eqb, le-leb}
 use lib.ListN.{length}
 use lib.Seq.{getD-set-same, getD-set-other}
@@ -15,7 +15,7 @@ use Rattle.words.specs.Words.{Form, unusedWord, readyWord, waitsOn, setWord, ow
 use Rattle.words.proofs.BoolLaws.{or-left, or-right}
 use Rattle.rules.specs.Tables.{Tables, taskAt, promiseAt, closed}
 use Rattle.rules.specs.Refusals.{first, tableRows, entryRefusal, firstBad, getRows, ownRows, childRows}
-use Rattle.rules.specs.Steps.{Step, step-new, step-set, step-get, step-async, step-end, Outcome, outcome, withSet, withWait, withStarted, withEnded, started, rows, effect, raw, step}
+use Rattle.rules.specs.Steps.{Step, step-new, step-set, step-get, step-async, step-end, Outcome, outcome, withSet, withStarted, withEnded, started, rows, effect, raw, step}
 use Rattle.rules.specs.declared.Answer.the-variants.{Started, RefusedAt}
 use Rattle.rules.proofs.Accepted.{guarded-is}
 use Rattle.rules.proofs.Order.{got-cases}

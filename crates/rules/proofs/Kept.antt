@@ -1,4 +1,4 @@
--- Every step keeps sound tables sound, fresh tables are sound, and so are the tables after any steps from fresh ones. Assumes nothing.
+-- Every step keeps sound tables sound, all-zero and fresh tables are sound, and so are the tables after any steps from fresh ones. Assumes nothing.
 use mathlib.Core.Path.{_≡_, refl, sym, ap, subst, subst₂, _∙_}
 use mathlib.Core.Logic.{_⊎_, inl, inr, _≢_}
 use mathlib.Core.List.{List, [], _∷_}
@@ -10,9 +10,9 @@ use lib.ListN.{length, getD, set, replicate, length-set, length-replicate, getD-
 use lib.Seq.{getD-set-same, getD-set-other}
 use Rattle.words.specs.Words.{Form, inBounds, unusedWord, readyWord, waitsOn, firstOwned, unmadeWord}
 use Rattle.words.proofs.WordLaws.{Bounds, inBounds-true, inBounds-of}
-use Rattle.rules.specs.Tables.{Tables, taskAt, promiseAt, fresh}
+use Rattle.rules.specs.Tables.{Tables, tables, taskAt, fresh}
 use Rattle.rules.specs.Chains.{view}
-use Rattle.rules.specs.Sound.{TaskWord, unused, ready, unmade, SoundView, Sound, soundTest}
+use Rattle.rules.specs.Sound.{Live, TaskWord, unused, ready, unmade, SoundView, Sound, soundTest}
 use Rattle.rules.specs.Refusals.{first, tableRows}
 use Rattle.rules.specs.Steps.{Step, actor, raw, step, run}
 use Rattle.rules.specs.Demands.{Apart, Good}
@@ -71,7 +71,7 @@ module _ (F : Form) (apart : Apart F) (n : ℕ) where
   good-run s [] g = g
   good-run s (x ∷ xs) g = good-run (step F n s x .after) xs (good-step s x g)
 
--- ---- fresh tables
+-- ---- all-zero and fresh tables
 
 zeros : (m v : ℕ) → getD {A = ℕ} (replicate m 0) v 0 ≡ 0
 zeros m v = go (decLt v m)
@@ -79,6 +79,22 @@ zeros m v = go (decLt v m)
     go : Dec (v < m) → getD {A = ℕ} (replicate m 0) v 0 ≡ 0
     go (yes h) = getD-replicate m v 0 0 h
     go (no k) = List·getD-eq-default (replicate m 0) 0 (omega (arith, length-replicate {A = ℕ} m 0))
+
+-- all-zero tables are sound
+pub zero-sound : (B T P : ℕ) → firstOwned ≤ B → Sound B (tables (replicate T 0) (replicate P 0))
+zero-sound B T P b = record {
+  taskWord = λ v. unused (zeros T v);
+  promiseWord = λ q. unmade (zeros P q);
+  ownerLive = λ q u h o. absurd (omega (arith, zeros P q));
+  awaitedOwned = λ v p w. absurd (omega (arith, zeros T v));
+  blamedEnded = λ q u h o. absurd (omega (arith, zeros P q));
+  chainComes = λ v p w. absurd (omega (arith, zeros T v));
+}
+
+-- and have no live task
+pub zero-not-live : (T P v : ℕ) → Live (taskAt (tables (replicate T 0) (replicate P 0)) v) → ⊥
+zero-not-live T P v (inl e) = omega (arith, zeros T v)
+zero-not-live T P v (inr h) = omega (arith, zeros T v)
 
 module _ (T P : ℕ) (some : 1 ≤ T) where
   fresh-task : (v : ℕ) → (taskAt (fresh T P) v ≡ unusedWord) ⊎ (taskAt (fresh T P) v ≡ readyWord)

@@ -135,10 +135,10 @@ unfolding got
 set-value B s t p w e = rw (eq-eqb w setWord e)
 
 -- a get that is not refused: it answers value exactly when the promise is set, and leaves the promise table whatever it answers
-pub get-rule : (F : Form) (n : ℕ) (s : Tables) (t p : ℕ) (a : Answer) → ((q : ℕ) → Refused q ≡ a → ⊥) → step F n s (step-get t p) .answer ≡ a
+pub get-rule : (F : Form) (n : ℕ) (s : Tables) (t p : ℕ) (a : Answer) → (Refusal a → ⊥) → step F n s (step-get t p) .answer ≡ a
     → GetRule s (step F n s (step-get t p) .after) p a
 get-rule F n s t p a h e =
-    let (z, o) = accepted F n s (step-get t p) a h e in
+    let (z, o) = accepted F n s (step-get t p) a (λ q y. h (subst Refusal y (plain q))) e in
     let (act, z₁) = actorRows-none (s .tasks) t (getRows (s .promises) p) z in
     let (b, m) = getRows-none (s .promises) p z₁ in
     let e₁ : got (F .base) s t p (promiseAt s p) .answer ≡ a = sym (ap (λ (x : Outcome). x .answer) o) ∙ e in

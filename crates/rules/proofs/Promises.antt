@@ -6,12 +6,12 @@ use mathlib.Core.List.{List, [], _∷_, _++_, map}
 use mathlib.Core.Bool.{true}
 use Prim.Native.Nat.{ℕ, _+_, _*_, _≤_, _<_}
 use lib.Dec.{lit≤}
-use lib.ListN.{length}
+use lib.ListN.{length, replicate}
 use Rattle.words.specs.Words.{Form, small, unusedWord, readyWord, waitsOn, unmadeWord, setWord, firstOwned, ownedBy, blamedOn}
 use Rattle.words.specs.Lists.{In}
-use Rattle.rules.specs.Tables.{Tables, taskAt, promiseAt, liveTasks, closed, fresh}
+use Rattle.rules.specs.Tables.{Tables, tables, taskAt, promiseAt, liveTasks, closed, fresh}
 use Rattle.rules.specs.Chains.{Chain, waits}
-use Rattle.rules.specs.Sound.{Sound, soundTest}
+use Rattle.rules.specs.Sound.{Live, Sound, soundTest}
 use Rattle.rules.specs.Answers.{numberOf, valuesOf}
 use Rattle.rules.specs.Refusals.{tableRows, entryRows}
 use Rattle.rules.specs.Steps.{Step, step-new, step-set, step-get, step-async, step-end, Outcome, outcome, withWait, pairs, rows, step, run}
@@ -49,6 +49,10 @@ test-means-sound B s fits e = test.soundTest-sound B s fits e
 
 pub sound-passes-test : (B : ℕ) (s : Tables) → Sound B s → soundTest B s ≡ true
 sound-passes-test B s sd = test.sound-soundTest B s sd
+
+-- "All-zero tables are sound and have no live task."
+pub all-zero-are-sound : (B T P : ℕ) → firstOwned ≤ B → Sound B (tables (replicate T 0) (replicate P 0)) × ((v : ℕ) → Live (taskAt (tables (replicate T 0) (replicate P 0)) v) → ⊥)
+all-zero-are-sound B T P b = (kept.zero-sound B T P b, kept.zero-not-live T P)
 
 -- ---- DEMAND 1
 
@@ -116,7 +120,7 @@ module _ (F : Form) (n : ℕ) (s : Tables) where
   pub async-by-the-policy : (t c : ℕ) (list : List ℕ) → step F n s (step-async t c list) .answer ≡ Started → SpawnRule s (step F n s (step-async t c list) .after) t c list
   async-by-the-policy = policy.spawn-rule F n s
 
-  pub get-by-the-policy : (t p : ℕ) (a : Answer) → ((r : ℕ) → Refused r ≡ a → ⊥) → step F n s (step-get t p) .answer ≡ a → GetRule s (step F n s (step-get t p) .after) p a
+  pub get-by-the-policy : (t p : ℕ) (a : Answer) → (Refusal a → ⊥) → step F n s (step-get t p) .answer ≡ a → GetRule s (step F n s (step-get t p) .after) p a
   get-by-the-policy = policy.get-rule F n s
 
   pub end-by-the-policy : (t m k : ℕ) → step F n s (step-end t) .answer ≡ Ended m k → EndRule s (step F n s (step-end t) .after) t
