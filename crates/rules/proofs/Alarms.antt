@@ -1,31 +1,31 @@
 -- Demand 2 over the definitions, its second sentence: a get alarms exactly when the owners from the promise lead back to the asker, and reports that ring; the
--- count that it answers is the number of these owners, alarm or not. Assumes nothing.
+-- count that it answers is the number of these owners, alarm or not. It answers value and blamed exactly of a set and a blamed promise. Assumes nothing.
 use mathlib.Core.Path.{_≡_, refl, sym, ap, subst, _∙_}
 use mathlib.Core.Logic.{inl, _≢_}
 use mathlib.Core.List.{List, [], _∷_}
 use mathlib.Core.Bool.{Bool, true, false}
 use Prim.Native.Nat.{ℕ, zero, suc, _+_, _-_, _≤_, _<_}
 use native.Mathlib.Omega.{arith}
-use native.Mathlib.Decide.{ℕ-discrete}
 use lib.Dec.{eqb, ltb, leb}
 use borrow.Author.Tests.{eq-eqb, ne-eqb, lt-ltb, lt-leb}
 use lib.ListN.{length, set, length-set}
-use Rattle.words.specs.Words.{Form, readyWord, waitsOn, firstWait, firstOwned, unmadeWord, ownedBy}
+use Rattle.words.specs.Words.{Form, readyWord, waitsOn, firstWait, firstOwned, unmadeWord, setWord, ownedBy, blamedOn}
 use Rattle.words.specs.Lists.{In}
 use Rattle.words.proofs.ListLaws.{within-table}
 use Rattle.rules.specs.Tables.{Tables, taskAt, promiseAt, liveTasks, awaitedBy, ownerOf}
 use Rattle.rules.specs.Chains.{Chain, here, link, chainEnd, view, graph, waits}
 use Rattle.rules.specs.Sound.{Sound}
-use Rattle.rules.specs.Refusals.{first, tableRows, getRows}
-use Rattle.rules.specs.Steps.{step-get, Outcome, outcome, withWait, Found, back, free, pairs, followed, got, guarded, rows, effect, raw, step}
-use Rattle.rules.specs.Demands.{Apart, Good, OwnersFrom, owners, Ring, closes, leads, Alarm}
+use Rattle.rules.specs.Refusals.{first, getRows}
+use Rattle.rules.specs.Steps.{step-get, Outcome, outcome, withWait, Found, back, free, pairs, followed, got, guarded, step}
+use Rattle.rules.specs.Demands.{Apart, Good, OwnersFrom, owners, Ring, closes, leads, Alarm, Wait}
 use Rattle.rules.specs.declared.Answer.{Answer}
 use Rattle.rules.specs.declared.Answer.the-variants.{Value, Blamed, Waits, Cycle, Refused}
-use Rattle.rules.proofs.Accepted.{owner-chain, got-back, got-free, got-is}
-use Rattle.rules.proofs.GraphLaws.{unique, ready-is-end, in-end}
+use Rattle.rules.proofs.Accepted.{owner-chain, got-back, got-free, got-set, got-blamed, got-is}
+use Rattle.rules.proofs.GraphLaws.{unique, end-ready, ready-is-end, in-end}
 use Rattle.rules.proofs.Kept.{fits}
 use Rattle.rules.proofs.Moves.{det}
-use Rattle.rules.proofs.Order.{clash, guarded-none, guarded-some}
+use Rattle.rules.proofs.Named.{accepted}
+use Rattle.rules.proofs.Order.{clash}
 use Rattle.rules.proofs.RefusalLaws.{actorRows-none, getRows-none}
 use Rattle.rules.proofs.SoundTest.{chain-bound, live-yes, sound-soundTest}
 use Rattle.rules.proofs.StepMoves.{get-chain}
@@ -58,12 +58,12 @@ ring-of s v p {u} o (link {p = q} {u = x} {l = l} k c) =
     rw (e, f) (leads o (k .waits) r)
 
 module _ (F : Form) (apart : Apart F) (n : ℕ) (s : Tables) (g : Good F n s) where
-  -- a get of a ready task on an owned promise is not refused
-  get-accepted : (t p u : ℕ) → taskAt s t ≡ readyWord → promiseAt s p ≡ ownedBy u → step F n s (step-get t p) ≡ got (F .base) s t p (promiseAt s p)
+  -- a get of a ready task on a promise that was made is not refused
+  get-accepted : (t p : ℕ) → taskAt s t ≡ readyWord → promiseAt s p ≢ unmadeWord → step F n s (step-get t p) ≡ got (F .base) s t p (promiseAt s p)
   unfolding guarded first
-  get-accepted t p u r o =
+  get-accepted t p r m =
       let b : t < length (s .tasks) = within-table (s .tasks) t (λ (z : taskAt s t ≡ 0). omega arith) in
-      let q : p < length (s .promises) = within-table (s .promises) p (λ (z : promiseAt s p ≡ 0). omega arith) in
+      let q : p < length (s .promises) = within-table (s .promises) p m in
       rw (
         g .bounds,
         sound-soundTest (F .base) s (g .sound),
@@ -71,14 +71,22 @@ module _ (F : Form) (apart : Apart F) (n : ℕ) (s : Tables) (g : Good F n s) wh
         live-yes (taskAt s t) (inl r),
         lt-leb firstWait (taskAt s t) (omega arith),
         lt-ltb p (length (s .promises)) q,
-        ne-eqb (promiseAt s p) unmadeWord (λ (z : promiseAt s p ≡ unmadeWord). omega arith),
+        ne-eqb (promiseAt s p) unmadeWord m,
       )
+
+  -- of a set promise it answers value, and of a blamed one who is blamed
+  pub get-value : (t p : ℕ) → taskAt s t ≡ readyWord → promiseAt s p ≡ setWord → step F n s (step-get t p) ≡ outcome Value s []
+  get-value t p r o = get-accepted t p r (λ (z : promiseAt s p ≡ unmadeWord). omega arith) ∙ got-set F s (fits F apart n s (g .bounds)) (g .sound) t p o
+
+  pub get-blamed : (t p b : ℕ) → taskAt s t ≡ readyWord → promiseAt s p ≡ blamedOn (F .base) b → step F n s (step-get t p) ≡ outcome (Blamed b) s []
+  get-blamed t p b r o =
+      get-accepted t p r (λ (z : promiseAt s p ≡ unmadeWord). omega (arith, apart)) ∙ got-blamed F s (fits F apart n s (g .bounds)) (g .sound) t p b o
 
   -- where the asker is one of the owners, it alarms
   pub get-alarms : (t p : ℕ) (l : List ℕ) → taskAt s t ≡ readyWord → OwnersFrom s p l → In t l → step F n s (step-get t p) ≡ outcome (Cycle (length l)) s (pairs (length l) s t p)
   unfolding followed
   get-alarms t p l r (owners {u = u} {l = k} h o c) i =
-      get-accepted t p u r o
+      get-accepted t p r (λ (z : promiseAt s p ≡ unmadeWord). omega arith)
       ∙ got-back F s (fits F apart n s (g .bounds)) (g .sound) t p u r h o c (sym (ready-is-end (waits s) (det (length (s .tasks)) (view s)) c i r))
       ∙ ap (λ (x : ℕ). followed s t p (back x)) (omega arith)
 
@@ -91,12 +99,12 @@ module _ (F : Form) (apart : Apart F) (n : ℕ) (s : Tables) (g : Good F n s) wh
       let b : t < length (s .tasks) = within-table (s .tasks) t (λ (z : taskAt s t ≡ 0). omega arith) in
       let q : p < length (s .promises) = within-table (s .promises) p (λ (z : promiseAt s p ≡ 0). omega arith) in
       let f = fits F apart n s (g .bounds) in (
-        get-accepted t p u r o ∙ got-free F s f (g .sound) t p u r h o c far ∙ ap (λ (x : ℕ). followed s t p (free x)) (omega arith),
+        get-accepted t p r (λ (z : promiseAt s p ≡ unmadeWord). omega arith) ∙ got-free F s f (g .sound) t p u r h o c far ∙ ap (λ (x : ℕ). followed s t p (free x)) (omega arith),
         subst (λ (x : ℕ). Chain (graph x (view (withWait s t p))) t (u ∷ k)) (sym (length-set (s .tasks) t (waitsOn p)))
             (get-chain (length (s .tasks)) (length (s .promises)) (F .base) f s (g .sound) t b r p u h o q b k c far),
       )
 
-  -- ---- and back: what an alarm means
+  -- ---- and back: what an alarm means, and a wait, value and blamed
 
   from-outcome : (t p k : ℕ) (o : Outcome) → taskAt s t ≡ readyWord → p < length (s .promises) → promiseAt s p ≢ unmadeWord
       → o ≡ got (F .base) s t p (promiseAt s p) → o .answer ≡ Cycle k → Alarm s t p k (o .words)
@@ -120,23 +128,67 @@ module _ (F : Form) (apart : Apart F) (n : ℕ) (s : Tables) (g : Good F n s) wh
       (λ u l b w c y (z : Waits (1 + length l) ≡ Cycle k). clash cc))
       a
 
-  guarded-cycle : (r : ℕ) (o : Outcome) (k : ℕ) → guarded r s o .answer ≡ Cycle k → r ≡ 0
-  guarded-cycle r o k e = go (ℕ-discrete r 0)
-    where
-      go : Dec (r ≡ 0) → r ≡ 0
-      go (yes z) = z
-      go (no m) = let x : Refused r ≡ Cycle k = sym (ap (λ (y : Outcome). y .answer) (guarded-some r s o m)) ∙ e in clash cc
+  -- a get that is not refused is one of a ready task, on a promise that was made
+  get-found : (t p : ℕ) (a : Answer) → ((q : ℕ) → Refused q ≡ a → ⊥) → step F n s (step-get t p) .answer ≡ a
+      → (taskAt s t ≡ readyWord) × (p < length (s .promises)) × (promiseAt s p ≢ unmadeWord) × (step F n s (step-get t p) ≡ got (F .base) s t p (promiseAt s p))
+  get-found t p a h e =
+      let (z, o) = accepted F n s (step-get t p) a h e in
+      let (act, z₁) = actorRows-none (s .tasks) t (getRows (s .promises) p) z in
+      let (b, m) = getRows-none (s .promises) p z₁ in
+      (act .ready, b, m, o)
 
   pub alarm-means : (t p k : ℕ) → step F n s (step-get t p) .answer ≡ Cycle k → Alarm s t p k (step F n s (step-get t p) .words)
   alarm-means t p k e =
-      let a = guarded-cycle (first (tableRows F n s)) (raw F s (step-get t p)) k e in
-      let o₁ = guarded-none (first (tableRows F n s)) s (raw F s (step-get t p)) a in
-      let e₁ : raw F s (step-get t p) .answer ≡ Cycle k = sym (ap (λ (y : Outcome). y .answer) o₁) ∙ e in
-      let b = guarded-cycle (first (rows F s (step-get t p))) (effect F s (step-get t p)) k e₁ in
-      let o₂ = guarded-none (first (rows F s (step-get t p))) s (effect F s (step-get t p)) b in
-      let (act, b₁) = actorRows-none (s .tasks) t (getRows (s .promises) p) b in
-      let (h, m) = getRows-none (s .promises) p b₁ in
-      from-outcome t p k (step F n s (step-get t p)) (act .ready) h m (o₁ ∙ o₂) e
+      let (r, h, m, o) = get-found t p (Cycle k) (λ q (y : Refused q ≡ Cycle k). clash cc) e in
+      from-outcome t p k (step F n s (step-get t p)) r h m o e
+
+  -- and what a wait means
+  pub wait-means : (t p k : ℕ) → step F n s (step-get t p) .answer ≡ Waits k → Wait s t p k
+  unfolding followed
+  wait-means t p k e =
+      let (r, h, m, o) = get-found t p (Waits k) (λ q (y : Refused q ≡ Waits k). clash cc) e in
+      got-is F s (fits F apart n s (g .bounds)) (g .sound) t p (λ (x : Outcome). x .answer ≡ Waits k → Wait s t p k) r h m
+      (λ x (z : Value ≡ Waits k). clash cc)
+      (λ b y x (z : Blamed b ≡ Waits k). clash cc)
+      (λ u l b w c y (z : Cycle (1 + length l) ≡ Waits k). clash cc)
+      (λ u l b w c y (z : Waits (1 + length l) ≡ Waits k).
+      let x : 1 + length l ≡ k = cc in
+      record {
+        ready = r;
+        links = u ∷ l;
+        owners = owners b w c;
+        end-ready = end-ready (waits s) c;
+        not-back = λ i. y (sym (ready-is-end (waits s) (det (length (s .tasks)) (view s)) c i r));
+        count = omega arith;
+      })
+      (sym (ap (λ (x : Outcome). x .answer) o) ∙ e)
+
+  -- and what value and blamed mean
+  pub value-means : (t p : ℕ) → step F n s (step-get t p) .answer ≡ Value → (taskAt s t ≡ readyWord) × (promiseAt s p ≡ setWord)
+  unfolding followed
+  value-means t p e =
+      let (r, h, m, o) = get-found t p Value (λ q (y : Refused q ≡ Value). clash cc) e in (
+        r,
+        got-is F s (fits F apart n s (g .bounds)) (g .sound) t p (λ (x : Outcome). x .answer ≡ Value → promiseAt s p ≡ setWord) r h m
+            (λ x z. x)
+            (λ b y x (z : Blamed b ≡ Value). clash cc)
+            (λ u l b w c y (z : Cycle (1 + length l) ≡ Value). clash cc)
+            (λ u l b w c y (z : Waits (1 + length l) ≡ Value). clash cc)
+            (sym (ap (λ (x : Outcome). x .answer) o) ∙ e),
+      )
+
+  pub blamed-means : (t p b : ℕ) → step F n s (step-get t p) .answer ≡ Blamed b → (taskAt s t ≡ readyWord) × (promiseAt s p ≡ blamedOn (F .base) b)
+  unfolding followed
+  blamed-means t p b e =
+      let (r, h, m, o) = get-found t p (Blamed b) (λ q (y : Refused q ≡ Blamed b). clash cc) e in (
+        r,
+        got-is F s (fits F apart n s (g .bounds)) (g .sound) t p (λ (x : Outcome). x .answer ≡ Blamed b → promiseAt s p ≡ blamedOn (F .base) b) r h m
+            (λ x (z : Value ≡ Blamed b). clash cc)
+            (λ c y x (z : Blamed c ≡ Blamed b). let k : c ≡ b = cc in x ∙ ap (blamedOn (F .base)) k)
+            (λ u l x w c y (z : Cycle (1 + length l) ≡ Blamed b). clash cc)
+            (λ u l x w c y (z : Waits (1 + length l) ≡ Blamed b). clash cc)
+            (sym (ap (λ (x : Outcome). x .answer) o) ∙ e),
+      )
 
   -- an alarm changes no table
   pub alarm-unchanged : (t p k : ℕ) → step F n s (step-get t p) .answer ≡ Cycle k → step F n s (step-get t p) .after ≡ s

@@ -1,4 +1,4 @@
--- Every step keeps sound tables sound, fresh tables are sound, and so are the tables after any steps from fresh ones. Assumes nothing.
+-- Every step keeps sound tables sound, all-zero and fresh tables are sound, and so are the tables after any steps from fresh ones. Assumes nothing.
 use mathlib.Core.Path.{_≡_, refl, sym, ap, subst, subst₂, _∙_}
 use mathlib.Core.Logic.{_⊎_, inl, inr, _≢_}
 use mathlib.Core.List.{List, [], _∷_}
@@ -10,15 +10,16 @@ use lib.ListN.{length, getD, set, replicate, length-set, length-replicate, getD-
 use lib.Seq.{getD-set-same, getD-set-other}
 use Rattle.words.specs.Words.{Form, inBounds, unusedWord, readyWord, waitsOn, firstOwned, unmadeWord}
 use Rattle.words.proofs.WordLaws.{Bounds, inBounds-true, inBounds-of}
-use Rattle.rules.specs.Tables.{Tables, taskAt, promiseAt, fresh}
+use Rattle.rules.specs.Tables.{Tables, tables, taskAt, fresh}
 use Rattle.rules.specs.Chains.{view}
-use Rattle.rules.specs.Sound.{TaskWord, unused, ready, unmade, SoundView, Sound, soundTest}
+use Rattle.rules.specs.Sound.{Live, TaskWord, unused, ready, unmade, SoundView, Sound, soundTest}
 use Rattle.rules.specs.Refusals.{first, tableRows}
 use Rattle.rules.specs.Steps.{Step, actor, raw, step, run}
 use Rattle.rules.specs.Demands.{Apart, Good}
 use Rattle.rules.proofs.Accepted.{Took, stayed, moved, guarded-is, took-raw}
 use Rattle.rules.proofs.Moves.{sound-step}
 use Rattle.rules.proofs.RefusalLaws.{first-none, not-is-false}
+use Rattle.rules.proofs.SoundTest.{soundTest-sound}
 
 module _ (F : Form) (apart : Apart F) (n : ℕ) where
   -- the owned words of tables within their bounds end before the blamed ones begin
@@ -29,9 +30,17 @@ module _ (F : Form) (apart : Apart F) (n : ℕ) where
   bounds-of : (s : Tables) → first (tableRows F n s) ≡ 0 → inBounds F (length (s .tasks)) (length (s .promises)) n ≡ true
   bounds-of s e = not-is-false _ (first-none 1 (not (inBounds F (length (s .tasks)) (length (s .promises)) n)) _ (λ (z : _≡_ {A = ℕ} 1 0). omega arith) e .0)
 
-  -- each step of any task, with any numbers, from any sound tables
-  pub took-step : (s : Tables) → Sound (F .base) s → (x : Step) → Took (F .base) s (actor x) (step F n s x .after)
-  took-step s sd x = guarded-is (first (tableRows F n s)) s (raw F s x) (Took (F .base) s (actor x)) (stayed refl) (λ e. took-raw F s (fits s (bounds-of s e)) sd x)
+  -- nor is refusal 2
+  sound-of : (s : Tables) → first (tableRows F n s) ≡ 0 → Sound (F .base) s
+  sound-of s e =
+      let (a, e₁) = first-none 1 (not (inBounds F (length (s .tasks)) (length (s .promises)) n)) _ (λ (z : _≡_ {A = ℕ} 1 0). omega arith) e in
+      let (b, e₂) = first-none 2 (not (soundTest (F .base) s)) _ (λ (z : _≡_ {A = ℕ} 2 0). omega arith) e₁ in
+      soundTest-sound (F .base) s (fits s (bounds-of s e)) (not-is-false (soundTest (F .base) s) b)
+
+  -- each step of any task, with any numbers, from any tables: those that are damaged or out of bounds stay as they were
+  pub took-step : (s : Tables) (x : Step) → Took (F .base) s (actor x) (step F n s x .after)
+  took-step s x =
+      guarded-is (first (tableRows F n s)) s (raw F s x) (Took (F .base) s (actor x)) (stayed refl) (λ e. took-raw F s (fits s (bounds-of s e)) (sound-of s e) x)
 
   sound-by : (s s′ : Tables) (t : ℕ) → firstOwned + length (s .tasks) ≤ F .base → Sound (F .base) s → Took (F .base) s t s′ → Sound (F .base) s′
   sound-by s s′ t f sd (stayed e) = subst (Sound (F .base)) (sym e) sd
@@ -52,7 +61,7 @@ module _ (F : Form) (apart : Apart F) (n : ℕ) where
 
   pub good-step : (s : Tables) (x : Step) → Good F n s → Good F n (step F n s x .after)
   good-step s x g =
-      let (a, b) = lengths-by s (step F n s x .after) (actor x) (took-step s (g .sound) x) in
+      let (a, b) = lengths-by s (step F n s x .after) (actor x) (took-step s x) in
       record {
         bounds = subst₂ (λ (i j : ℕ). inBounds F i j n ≡ true) (sym a) (sym b) (g .bounds);
         sound = sound-kept s (g .sound) x;
@@ -62,7 +71,7 @@ module _ (F : Form) (apart : Apart F) (n : ℕ) where
   good-run s [] g = g
   good-run s (x ∷ xs) g = good-run (step F n s x .after) xs (good-step s x g)
 
--- ---- fresh tables
+-- ---- all-zero and fresh tables
 
 zeros : (m v : ℕ) → getD {A = ℕ} (replicate m 0) v 0 ≡ 0
 zeros m v = go (decLt v m)
@@ -70,6 +79,22 @@ zeros m v = go (decLt v m)
     go : Dec (v < m) → getD {A = ℕ} (replicate m 0) v 0 ≡ 0
     go (yes h) = getD-replicate m v 0 0 h
     go (no k) = List·getD-eq-default (replicate m 0) 0 (omega (arith, length-replicate {A = ℕ} m 0))
+
+-- all-zero tables are sound
+pub zero-sound : (B T P : ℕ) → firstOwned ≤ B → Sound B (tables (replicate T 0) (replicate P 0))
+zero-sound B T P b = record {
+  taskWord = λ v. unused (zeros T v);
+  promiseWord = λ q. unmade (zeros P q);
+  ownerLive = λ q u h o. absurd (omega (arith, zeros P q));
+  awaitedOwned = λ v p w. absurd (omega (arith, zeros T v));
+  blamedEnded = λ q u h o. absurd (omega (arith, zeros P q));
+  chainComes = λ v p w. absurd (omega (arith, zeros T v));
+}
+
+-- and have no live task
+pub zero-not-live : (T P v : ℕ) → Live (taskAt (tables (replicate T 0) (replicate P 0)) v) → ⊥
+zero-not-live T P v (inl e) = omega (arith, zeros T v)
+zero-not-live T P v (inr h) = omega (arith, zeros T v)
 
 module _ (T P : ℕ) (some : 1 ≤ T) where
   fresh-task : (v : ℕ) → (taskAt (fresh T P) v ≡ unusedWord) ⊎ (taskAt (fresh T P) v ≡ readyWord)

@@ -12,7 +12,9 @@ pub mod Kept
 pub mod Waiting
 pub mod InTurn
 pub mod Order
-pub mod Alarms
 pub mod Named
+pub mod Alarms
 pub mod Policy
+pub mod Once
+pub mod Blocked
 pub mod Promises

@@ -9,7 +9,8 @@ use native.Mathlib.Omega.{arith}
 use native.Mathlib.Nat.{sub-zero}
 use native.Mathlib.Decide.{ℕ-discrete}
 use lib.ListN.{length, getD}
-use Rattle.words.specs.Words.{Form, readyWord, endedWord, waitsOn, ownedBy, blamedOn}
+use lib.Seq.{getD-set-same, getD-set-other}
+use Rattle.words.specs.Words.{Form, readyWord, endedWord, waitsOn, setWord, ownedBy, blamedOn}
 use Rattle.words.specs.Lists.{is, places, In, Rising}
 use Rattle.words.proofs.ListLaws.{is-hit, is-true, At, places-at, at-places, places-rising, within-table}
 use Rattle.rules.specs.Tables.{Tables, taskAt, promiseAt}
@@ -21,7 +22,7 @@ use Rattle.rules.specs.declared.Answer.{Answer}
 use Rattle.rules.specs.declared.Answer.the-variants.{Set, Ended, Refused}
 use Rattle.rules.proofs.Order.{clash, guarded-none, guarded-some}
 use Rattle.rules.proofs.RefusalLaws.{actorRows-none, ownRows-none}
-use Rattle.rules.proofs.StepMoves.{awaits-hit, awaits-true, set-hit, blame-hit, blame-miss, end-hit}
+use Rattle.rules.proofs.StepMoves.{awaits-hit, awaits-true, set-hit, set-miss, blame-hit, blame-miss, end-hit, end-miss, end-actor}
 
 -- ---- the places of a table, by the words that they hold
 
@@ -53,7 +54,9 @@ accepted F n s x a h e =
 pub set-wakes : (F : Form) (n : ℕ) (s : Tables) (t p m : ℕ) → step F n s (step-set t p) .answer ≡ Set m → Woken s p m (step F n s (step-set t p))
 set-wakes F n s t p m e =
     let (z, o) = accepted F n s (step-set t p) (Set m) (λ q (y : Refused q ≡ Set m). clash cc) e in
-    subst (Woken s p m) (sym o) (woken (sym (ap (λ (y : Outcome). y .answer) o) ∙ e))
+    let (act, z₁) = actorRows-none (s .tasks) t (ownRows (F .base) (s .promises) t p) z in
+    let (h, w, z₂) = ownRows-none (F .base) (s .promises) t p [] z₁ in
+    subst (Woken s p m) (sym o) (woken h (sym (ap (λ (y : Outcome). y .answer) o) ∙ e))
   where
     ws : List ℕ
     ws = places (is (waitsOn p)) 0 (s .tasks)
@@ -61,13 +64,19 @@ set-wakes F n s t p m e =
     waited : (v : ℕ) → In v ws → taskAt s v ≡ waitsOn p
     waited v i = is-true (waitsOn p) (taskAt s v) (place-passes (is (waitsOn p)) (s .tasks) v i)
 
-    woken : Set (length ws) ≡ Set m → Woken s p m (effect F s (step-set t p))
-    woken a = record {
+    all-waited : (v : ℕ) → taskAt s v ≡ waitsOn p → In v ws
+    all-waited v w = passes-place (is (waitsOn p)) (s .tasks) v (within-table (s .tasks) v (λ (y : taskAt s v ≡ 0). omega arith)) (is-hit (waitsOn p) (taskAt s v) w)
+
+    woken : p < length (s .promises) → Set (length ws) ≡ Set m → Woken s p m (effect F s (step-set t p))
+    woken h a = record {
       count = sym cc;
       rising = places-rising (is (waitsOn p)) 0 (s .tasks);
       waited = waited;
-      all-waited = λ v w. passes-place (is (waitsOn p)) (s .tasks) v (within-table (s .tasks) v (λ (y : taskAt s v ≡ 0). omega arith)) (is-hit (waitsOn p) (taskAt s v) w);
+      all-waited = all-waited;
       all-ready = λ v i. set-hit s p v (waited v i);
+      is-set = getD-set-same (s .promises) p setWord 0 h;
+      other-tasks = λ v k. set-miss s p v (λ w. k (all-waited v w));
+      other-promises = λ q k. getD-set-other (s .promises) p q setWord 0 k;
     }
 
 -- ---- end
@@ -96,6 +105,11 @@ end-names F n s sd t m k e =
     waited : (v : ℕ) → In v theirs → (p : ℕ) × (taskAt s v ≡ waitsOn p) × (promiseAt s p ≡ ownedBy t)
     waited v i = awaits-true (s .promises) (ownedBy t) (taskAt s v) (place-passes (awaits (s .promises) (ownedBy t)) (s .tasks) v i)
 
+    all-waited : (v p : ℕ) → taskAt s v ≡ waitsOn p → promiseAt s p ≡ ownedBy t → In v theirs
+    all-waited v p w o =
+        passes-place (awaits (s .promises) (ownedBy t)) (s .tasks) v (within-table (s .tasks) v (λ (y : taskAt s v ≡ 0). omega arith))
+        (awaits-hit (s .promises) (ownedBy t) (taskAt s v) p w o)
+
     -- nobody ready was blamed before
     blamed : t < length (s .tasks) → taskAt s t ≡ readyWord → (q : ℕ) → promiseAt (withEnded (F .base) s t) q ≡ blamedOn (F .base) t → Dec (promiseAt s q ≡ ownedBy t) → In q mine
     blamed b r q w (yes y) = all-owned q y
@@ -113,7 +127,9 @@ end-names F n s sd t m k e =
       blamed = λ q w. blamed b r q w (ℕ-discrete (promiseAt s q) (ownedBy t));
       all-blamed = λ q i. blame-hit (F .base) s t q (owned q i);
       waited = waited;
-      all-waited = λ v p w o. passes-place (awaits (s .promises) (ownedBy t)) (s .tasks) v (within-table (s .tasks) v (λ (y : taskAt s v ≡ 0). omega arith))
-          (awaits-hit (s .promises) (ownedBy t) (taskAt s v) p w o);
+      all-waited = all-waited;
       all-ready = λ v i. let (p, w, o) = waited v i in end-hit (F .base) s t v (λ (y : v ≡ t). omega (arith, ap (taskAt s) y)) (p, w, o);
+      is-ended = end-actor (F .base) s t b;
+      other-tasks = λ v x y. end-miss (F .base) s t v x (λ k. y (all-waited v (k .0) (k .1) (k .2)));
+      other-promises = λ q x. blame-miss (F .base) s t q (λ w. x (all-owned q w));
     }

@@ -13,11 +13,12 @@ use lib.ListN.{length}
 use Rattle.words.specs.Words.{Form, setWord, firstOwned}
 use Rattle.words.proofs.BoolLaws.{true-is-not-false}
 use Rattle.rules.specs.Tables.{Tables, promiseAt}
+use Rattle.rules.specs.Answers.{numberOf, valuesOf}
 use Rattle.rules.specs.Refusals.{Row, first, earlier, tableRows, entryRows, entryRefusal, firstBad}
 use Rattle.rules.specs.Steps.{Step, step-new, step-set, step-get, step-async, step-end, Outcome, outcome, Found, astray, back, free, walk, pairs, withWait, followed, got, guarded, started, withStarted, rows, effect, raw, step}
 use Rattle.rules.specs.Demands.{numbers, paperRows, FirstGiven, now, later, NoneGiven, no-row, not-this, BadPlace, Refusal, plain, placed}
 use Rattle.rules.specs.declared.Answer.{Answer}
-use Rattle.rules.specs.declared.Answer.the-variants.{Made, Set, Value, Blamed, Waits, Cycle, Started, Ended, Refused, RefusedAt}
+use Rattle.rules.specs.declared.Answer.the-variants.{Opened, Made, Set, Value, Blamed, Waits, Cycle, Started, Ended, Refused, RefusedAt}
 use Rattle.rules.proofs.PlaceLaws.{firstBad-place}
 use Rattle.rules.proofs.RefusalLaws.{Numbered, row, first-append, actorRows-numbered, firstBad-before}
 use Rattle.rules.proofs.RefusalLaws as laws
@@ -291,3 +292,35 @@ guarded-unchanged g s o h = go (eqb g 0)
 pub refusal-unchanged : (F : Form) (n : ℕ) (s : Tables) (x : Step) → Refusal (step F n s x .answer) → (step F n s x .after ≡ s) × (step F n s x .words ≡ [])
 refusal-unchanged F n s x =
     guarded-unchanged (first (tableRows F n s)) s (raw F s x) (guarded-unchanged (first (rows F s x)) s (effect F s x) (effect-unchanged F s x))
+
+-- ---- the numbers and values of refusals
+
+-- a step refused by r has the answer number r and no value
+pub first-number : (F : Form) (n : ℕ) (s : Tables) (x : Step) (r : ℕ) → FirstGiven r (tableRows F n s ++ rows F s x) → (numberOf (step F n s x .answer) ≡ r) × (valuesOf (step F n s x .answer) ≡ [])
+unfolding numberOf valuesOf
+first-number F n s x r g =
+    let e = ap (λ (o : Outcome). o .answer) (first-refused F n s x r g) in
+    (ap numberOf e, ap valuesOf e)
+
+-- refused for an entry, it has the answer number r and the entry's place as its one value
+pub placed-number : (F : Form) (n : ℕ) (s : Tables) (t c : ℕ) (list : List ℕ) (r i : ℕ) → NoneGiven (tableRows F n s ++ rows F s (step-async t c list))
+    → BadPlace (F .base) (s .promises) t list r i → (numberOf (step F n s (step-async t c list) .answer) ≡ r) × (valuesOf (step F n s (step-async t c list) .answer) ≡ i ∷ [])
+unfolding numberOf valuesOf
+placed-number F n s t c list r i none p =
+    let e = ap (λ (o : Outcome). o .answer) (first-placed F n s t c list r i none p) in
+    (ap numberOf e, ap valuesOf e)
+
+-- every other answer has a number from 100 on
+pub number-refuses : (a : Answer) → numberOf a < 100 → Refusal a
+unfolding numberOf
+number-refuses Opened h = absurd (omega arith)
+number-refuses Made h = absurd (omega arith)
+number-refuses (Set m) h = absurd (omega arith)
+number-refuses Value h = absurd (omega arith)
+number-refuses (Blamed b) h = absurd (omega arith)
+number-refuses (Waits k) h = absurd (omega arith)
+number-refuses (Cycle k) h = absurd (omega arith)
+number-refuses Started h = absurd (omega arith)
+number-refuses (Ended m k) h = absurd (omega arith)
+number-refuses (Refused r) h = plain r
+number-refuses (RefusedAt r i) h = placed r i

@@ -1,31 +1,36 @@
 -- The page of promises: what the rules promise, each in one statement whose proof is a name. The definitions that it speaks of stand in specs/; no other proof
 -- file has to be read. F is any form whose owned and blamed words do not meet (`small` is one), n the report's length, s any tables. Assumes nothing.
 use mathlib.Core.Path.{_≡_, refl, sym, _∙_}
-use mathlib.Core.Logic.{_≢_}
+use mathlib.Core.Logic.{_⊎_, _≢_}
 use mathlib.Core.List.{List, [], _∷_, _++_, map}
 use mathlib.Core.Bool.{true}
 use Prim.Native.Nat.{ℕ, _+_, _*_, _≤_, _<_}
 use lib.Dec.{lit≤}
-use lib.ListN.{length}
-use Rattle.words.specs.Words.{Form, small, readyWord, firstOwned, ownedBy}
+use lib.ListN.{length, replicate}
+use Rattle.words.specs.Words.{Form, small, unusedWord, readyWord, waitsOn, unmadeWord, setWord, firstOwned, ownedBy, blamedOn}
 use Rattle.words.specs.Lists.{In}
-use Rattle.rules.specs.Tables.{Tables, taskAt, promiseAt, liveTasks, fresh}
+use Rattle.rules.specs.Tables.{Tables, tables, taskAt, promiseAt, liveTasks, closed, fresh}
 use Rattle.rules.specs.Chains.{Chain, waits}
-use Rattle.rules.specs.Sound.{Sound, soundTest}
+use Rattle.rules.specs.Sound.{Live, Sound, soundTest}
+use Rattle.rules.specs.Answers.{numberOf, valuesOf}
 use Rattle.rules.specs.Refusals.{tableRows, entryRows}
-use Rattle.rules.specs.Steps.{Step, step-set, step-get, step-async, step-end, Outcome, outcome, withWait, pairs, rows, step, run}
+use Rattle.rules.specs.Steps.{Step, step-new, step-set, step-get, step-async, step-end, Outcome, outcome, withWait, pairs, rows, step, run}
 use Rattle.rules.specs.ProvedSet.{provedSet, taken, expected}
-use Rattle.rules.specs.Demands.{Apart, Good, numbers, paperRows, paperEntryRows, FirstGiven, NoneGiven, BadPlace, Refusal, OwnersFrom, Alarm, Named, Woken, Demand3}
+use Rattle.rules.specs.Demands.{Apart, Good, numbers, paperRows, paperEntryRows, FirstGiven, NoneGiven, BadPlace, Refusal, OwnersFrom, Alarm, Wait, Named, Woken, Demand3}
+use Rattle.rules.specs.Published.{NewRule, SetRule, SpawnRule, GetRule, EndRule, Asserted}
 use Rattle.rules.specs.Contracts.{Gives}
 use Rattle.rules.specs.Sessions.{Freshens}
 use Rattle.rules.specs.declared.Answer.{Answer}
-use Rattle.rules.specs.declared.Answer.the-variants.{Set, Waits, Cycle, Ended, Refused, RefusedAt}
+use Rattle.rules.specs.declared.Answer.the-variants.{Made, Set, Value, Blamed, Waits, Cycle, Started, Ended, Refused, RefusedAt}
 use Rattle.rules.proofs.Alarms as alarms
+use Rattle.rules.proofs.Blocked as blocked
 use Rattle.rules.proofs.Cases as cases
 use Rattle.rules.proofs.InTurn as in-turn
 use Rattle.rules.proofs.Kept as kept
 use Rattle.rules.proofs.Named as named
+use Rattle.rules.proofs.Once as once
 use Rattle.rules.proofs.Order as order
+use Rattle.rules.proofs.Policy as policy
 use Rattle.rules.proofs.SoundTest as test
 use Rattle.rules.proofs.Waiting as waiting
 
@@ -44,6 +49,10 @@ test-means-sound B s fits e = test.soundTest-sound B s fits e
 
 pub sound-passes-test : (B : ℕ) (s : Tables) → Sound B s → soundTest B s ≡ true
 sound-passes-test B s sd = test.sound-soundTest B s sd
+
+-- "All-zero tables are sound and have no live task."
+pub all-zero-are-sound : (B T P : ℕ) → firstOwned ≤ B → Sound B (tables (replicate T 0) (replicate P 0)) × ((v : ℕ) → Live (taskAt (tables (replicate T 0) (replicate P 0)) v) → ⊥)
+all-zero-are-sound B T P b = (kept.zero-sound B T P b, kept.zero-not-live T P)
 
 -- ---- DEMAND 1
 
@@ -71,6 +80,17 @@ module _ (F : Form) (n : ℕ) (s : Tables) where
       → step F n s (step-async t c list) ≡ outcome (RefusedAt r i) s []
   the-first-entry-refuses = order.first-placed F n s
 
+  -- the number of the answer (specs/Answers.antt) is then r, and the place its one value; an answer that is no refusal has a number from 100 on
+  pub refused-by-number : (x : Step) (r : ℕ) → FirstGiven r (tableRows F n s ++ rows F s x) → (numberOf (step F n s x .answer) ≡ r) × (valuesOf (step F n s x .answer) ≡ [])
+  refused-by-number = order.first-number F n s
+
+  pub entry-refused-by-number : (t c : ℕ) (list : List ℕ) (r i : ℕ) → NoneGiven (tableRows F n s ++ rows F s (step-async t c list)) → BadPlace (F .base) (s .promises) t list r i
+      → (numberOf (step F n s (step-async t c list) .answer) ≡ r) × (valuesOf (step F n s (step-async t c list) .answer) ≡ i ∷ [])
+  entry-refused-by-number = order.placed-number F n s
+
+  pub a-number-below-100-refuses : (x : Step) → numberOf (step F n s x .answer) < 100 → Refusal (step F n s x .answer)
+  a-number-below-100-refuses x = order.number-refuses (step F n s x .answer)
+
   -- a place is at most P, however long the list is
   pub a-place-is-at-most-P : (t c : ℕ) (list : List ℕ) (r i : ℕ) → step F n s (step-async t c list) .answer ≡ RefusedAt r i → i ≤ length (s .promises)
   a-place-is-at-most-P = order.placed-within F n s
@@ -87,9 +107,58 @@ one-outcome g h = (g .answer ∙ sym (h .answer), g .tasks ∙ sym (h .tasks), g
 pub one-freshening : {F : Form} {s : Tables} {r r′ : ℕ} {ts ts′ ps ps′ : List ℕ} → Freshens F s r ts ps → Freshens F s r′ ts′ ps′ → (r ≡ r′) × (ts ≡ ts′) × (ps ≡ ps′)
 one-freshening g h = (g .number ∙ sym (h .number), g .tasks ∙ sym (h .tasks), g .promises ∙ sym (h .promises))
 
+-- ---- the published policy (specs/Published.antt)
+
+module _ (F : Form) (n : ℕ) (s : Tables) where
+  -- an accepted step does what the rules of 001, section 3.2, say
+  pub new-by-the-policy : (t p : ℕ) → step F n s (step-new t p) .answer ≡ Made → NewRule s (step F n s (step-new t p) .after) t p
+  new-by-the-policy = policy.new-rule F n s
+
+  pub set-by-the-policy : (t p m : ℕ) → step F n s (step-set t p) .answer ≡ Set m → SetRule s (step F n s (step-set t p) .after) t p
+  set-by-the-policy = policy.set-rule F n s
+
+  pub async-by-the-policy : (t c : ℕ) (list : List ℕ) → step F n s (step-async t c list) .answer ≡ Started → SpawnRule s (step F n s (step-async t c list) .after) t c list
+  async-by-the-policy = policy.spawn-rule F n s
+
+  pub get-by-the-policy : (t p : ℕ) (a : Answer) → (Refusal a → ⊥) → step F n s (step-get t p) .answer ≡ a → GetRule s (step F n s (step-get t p) .after) p a
+  get-by-the-policy = policy.get-rule F n s
+
+  pub end-by-the-policy : (t m k : ℕ) → step F n s (step-end t) .answer ≡ Ended m k → EndRule s (step F n s (step-end t) .after) t
+  end-by-the-policy = policy.end-rule F n s
+
+  -- of the tasks a new changes no word, and an async makes the child ready and changes no other word
+  pub new-changes-no-task : (t p : ℕ) → step F n s (step-new t p) .answer ≡ Made → step F n s (step-new t p) .after .tasks ≡ s .tasks
+  new-changes-no-task = policy.new-tasks F n s
+
+  pub async-starts-the-child : (t c : ℕ) (list : List ℕ) → step F n s (step-async t c list) .answer ≡ Started
+      → (taskAt (step F n s (step-async t c list) .after) c ≡ readyWord) × ((v : ℕ) → v ≢ c → taskAt (step F n s (step-async t c list) .after) v ≡ taskAt s v)
+  async-starts-the-child = policy.spawn-tasks F n s
+
+  -- a step whose rules assert what does not hold is refused
+  pub forbidden-is-refused : (x : Step) → (Asserted s x → ⊥) → Refusal (step F n s x .answer)
+  forbidden-is-refused = policy.forbidden-refused F n s
+
+  -- 000, Definition 2.1: "get p blocks the current task until after set p": a step leaves the word of a task that waits on p, or closes p and makes the task ready
+  pub blocks-until-closed : (v p : ℕ) → taskAt s v ≡ waitsOn p → (x : Step)
+      → (taskAt (step F n s x .after) v ≡ waitsOn p) ⊎ ((taskAt (step F n s x .after) v ≡ readyWord) × (closed (F .base) (promiseAt (step F n s x .after) p) ≡ true))
+  blocks-until-closed v p w x = blocked.blocks F s v p w n x
+
 -- ---- DEMAND 2
 
 module _ (F : Form) (apart : Apart F) (n : ℕ) (s : Tables) (good : Good F n s) where
+  -- "if p is set, answer value. If p is blamed on b, answer blamed b": exactly then, and nothing changes
+  pub value-if-set : (t p : ℕ) → taskAt s t ≡ readyWord → promiseAt s p ≡ setWord → step F n s (step-get t p) ≡ outcome Value s []
+  value-if-set = alarms.get-value F apart n s good
+
+  pub only-if-set : (t p : ℕ) → step F n s (step-get t p) .answer ≡ Value → (taskAt s t ≡ readyWord) × (promiseAt s p ≡ setWord)
+  only-if-set = alarms.value-means F apart n s good
+
+  pub blamed-if-blamed : (t p b : ℕ) → taskAt s t ≡ readyWord → promiseAt s p ≡ blamedOn (F .base) b → step F n s (step-get t p) ≡ outcome (Blamed b) s []
+  blamed-if-blamed = alarms.get-blamed F apart n s good
+
+  pub only-if-blamed : (t p b : ℕ) → step F n s (step-get t p) .answer ≡ Blamed b → (taskAt s t ≡ readyWord) × (promiseAt s p ≡ blamedOn (F .base) b)
+  only-if-blamed = alarms.blamed-means F apart n s good
+
   -- "A get alarms exactly when the chain of owners and waits leads back to the asker", and then reports that ring and changes no table
   pub alarms-if-back : (t p : ℕ) (l : List ℕ) → taskAt s t ≡ readyWord → OwnersFrom s p l → In t l → step F n s (step-get t p) ≡ outcome (Cycle (length l)) s (pairs (length l) s t p)
   alarms-if-back = alarms.get-alarms F apart n s good
@@ -105,6 +174,10 @@ module _ (F : Form) (apart : Apart F) (n : ℕ) (s : Tables) (good : Good F n s)
       → (step F n s (step-get t p) ≡ outcome (Waits (length l)) (withWait s t p) []) × Chain (waits (withWait s t p)) t l
   waits-if-not-back = alarms.get-waits F apart n s good
 
+  -- and only then: the owners reached are as many as it answers, come to a ready task and do not lead back to the asker
+  pub waits-only-if-not-back : (t p k : ℕ) → step F n s (step-get t p) .answer ≡ Waits k → Wait s t p k
+  waits-only-if-not-back = alarms.wait-means F apart n s good
+
   -- the owners from a promise: one list for each owned promise, with at most as many as there are live tasks
   pub owners-exist : (p u : ℕ) → u < length (s .tasks) → promiseAt s p ≡ ownedBy u → (l : List ℕ) × OwnersFrom s p l
   owners-exist = alarms.owners-some F s (kept.fits F apart n s (good .bounds)) (good .sound)
@@ -115,17 +188,32 @@ module _ (F : Form) (apart : Apart F) (n : ℕ) (s : Tables) (good : Good F n s)
   pub owners-at-most-live : (p : ℕ) (l : List ℕ) → OwnersFrom s p l → length l ≤ liveTasks s
   owners-at-most-live = alarms.owners-bound s
 
-  -- "A task that ends still owning promises is named for exactly those."
+  -- "A task that ends still owning promises is named for exactly those": these become blamed on it, who waited on them becomes ready, it has ended, and no other word
+  -- changes
   pub named-for-exactly-those : (t m k : ℕ) → step F n s (step-end t) .answer ≡ Ended m k → Named (F .base) s t m k (step F n s (step-end t))
   named-for-exactly-those = named.end-names F n s (good .sound)
 
-  -- a set makes ready exactly those who waited on it
+  -- a set makes ready exactly those who waited on it; it is set, and no other word changes
   pub wakes-exactly-those : (t p m : ℕ) → step F n s (step-set t p) .answer ≡ Set m → Woken s p m (step F n s (step-set t p))
   wakes-exactly-those = named.set-wakes F n s
 
 -- each step, accepted, refused or alarmed, leaves sound tables sound, from any sound tables
 pub sound-stays-sound : (F : Form) → Apart F → (n : ℕ) (s : Tables) → Sound (F .base) s → (x : Step) → Sound (F .base) (step F n s x .after)
 sound-stays-sound = kept.sound-kept
+
+-- "A number is used once in a session": from any tables, after any steps, a promise that was made is still made and a task that was used is still used
+pub a-number-is-used-once : (F : Form) → Apart F → (n : ℕ) (s : Tables) (xs : List Step)
+    → ((p : ℕ) → promiseAt s p ≢ unmadeWord → promiseAt (run F n s xs) p ≢ unmadeWord) × ((t : ℕ) → taskAt s t ≢ unusedWord → taskAt (run F n s xs) t ≢ unusedWord)
+a-number-is-used-once F apart n s xs = (once.promise-stays-made F apart n s xs, once.task-stays-used F apart n s xs)
+
+-- so that the promise is not made again, and the task not started again
+pub not-made-again : (F : Form) → Apart F → (n : ℕ) (s : Tables) (p : ℕ) → promiseAt s p ≢ unmadeWord → (xs : List Step) (t : ℕ)
+    → Refusal (step F n (run F n s xs) (step-new t p) .answer)
+not-made-again = once.made-once
+
+pub not-started-again : (F : Form) → Apart F → (n : ℕ) (s : Tables) (c : ℕ) → taskAt s c ≢ unusedWord → (xs : List Step) (t : ℕ) (list : List ℕ)
+    → Refusal (step F n (run F n s xs) (step-async t c list) .answer)
+not-started-again = once.started-once
 
 -- ---- DEMAND 3
 
@@ -134,7 +222,7 @@ pub demand-3-of : (F : Form) → Apart F → (n : ℕ) (s : Tables) → Good F n
 demand-3-of F apart n s g = record {
   some-ready = waiting.some-ready (F .base) s (g .sound);
   one-chain = waiting.one-chain (F .base) s (g .sound);
-  kept = waiting.chain-kept F apart n s (g .sound);
+  kept = waiting.chain-kept F apart n s;
   in-turn = in-turn.ends-in-turn F apart n s g;
 }
 

@@ -66,7 +66,7 @@ module _ (s : Tables) (p v : ℕ) where
   pub set-hit : taskAt s v ≡ waitsOn p → taskAt (withSet s p) v ≡ readyWord
   set-hit e = replaced-hit (is (waitsOn p)) readyWord (s .tasks) v (is-zero p) (is-hit (waitsOn p) (taskAt s v) e)
 
-  set-miss : taskAt s v ≢ waitsOn p → taskAt (withSet s p) v ≡ taskAt s v
+  pub set-miss : taskAt s v ≢ waitsOn p → taskAt (withSet s p) v ≡ taskAt s v
   set-miss n = replaced-miss (is (waitsOn p)) readyWord (s .tasks) v (is-zero p) (is-miss (waitsOn p) (taskAt s v) n)
 
 module _ (B : ℕ) (s : Tables) (t : ℕ) where

@@ -70,11 +70,11 @@ module _ (B : ℕ) (s s′ : Tables) (t : ℕ) {v : ℕ} {l : List ℕ} (c : Cha
                 subst (λ (x : ℕ). promiseAt s′ x ≡ promiseAt s x) z (k′ .owned ∙ sym (k .owned)),
           )
 
-pub chain-kept : (F : Form) → Apart F → (n : ℕ) (s : Tables) → Sound (F .base) s → (x : Step) (v : ℕ) (l : List ℕ) → Chain (waits s) v l → actor x ≢ chainEnd v l
+pub chain-kept : (F : Form) → Apart F → (n : ℕ) (s : Tables) (x : Step) (v : ℕ) (l : List ℕ) → Chain (waits s) v l → actor x ≢ chainEnd v l
     → Chain (waits (step F n s x .after)) v l × ((y : ℕ) → In y (v ∷ l) → taskAt (step F n s x .after) y ≡ taskAt s y)
     × ((y p : ℕ) → In y (v ∷ l) → taskAt s y ≡ waitsOn p → promiseAt (step F n s x .after) p ≡ promiseAt s p)
-chain-kept F apart n s sd x v l c far =
-    let took = took-step F apart n s sd x in
+chain-kept F apart n s x v l c far =
+    let took = took-step F apart n s x in
     let apart′ : chainEnd v l ≢ actor x = λ z. far (sym z) in (
       chain-by (F .base) s (step F n s x .after) (actor x) c apart′ took,
       λ y i. words-by (F .base) s (step F n s x .after) (actor x) c apart′ took y i .0,

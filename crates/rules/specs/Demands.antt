@@ -7,7 +7,7 @@
 --   Refusal a                           the answer a is a refusal
 --   OwnersFrom s p l                    l are the owners that follow from p, to a ready task
 --   Ring s t p l ws                     ws are the pairs of the ring that t would close by waiting on p
---   Alarm, Named, Woken, Demand3        what an alarm, an end, a set means; demand 3
+--   Alarm, Wait, Named, Woken, Demand3  what an alarm, a wait, an end, a set means; demand 3
 -- Assumes nothing.
 use mathlib.Core.Path.{_≡_}
 use mathlib.Core.Logic.{_⊎_, _≢_}
@@ -15,7 +15,7 @@ use mathlib.Core.List.{List, [], _∷_, _++_}
 use mathlib.Core.Bool.{Bool, true, false}
 use Prim.Native.Nat.{ℕ, suc, _+_, _-_, _≤_, _<_}
 use lib.ListN.{length, take}
-use Rattle.words.specs.Words.{Form, inBounds, readyWord, waitsOn, firstOwned, ownedBy, blamedOn}
+use Rattle.words.specs.Words.{Form, inBounds, readyWord, endedWord, waitsOn, setWord, firstOwned, ownedBy, blamedOn}
 use Rattle.words.specs.Lists.{In, Rising}
 use Rattle.rules.specs.Tables.{Tables, taskAt, promiseAt, liveTasks}
 use Rattle.rules.specs.Chains.{Chain, chainEnd, waits}
@@ -90,6 +90,15 @@ pub record Alarm (s : Tables) (t p k : ℕ) (ws : List ℕ) : Type 0 where
   pub count : k ≡ length links
   pub ring : Ring s t p links ws
 
+-- t gets p and waits after k owners: t is ready and not refused, and the owners from p come to a ready task without leading back to t
+pub record Wait (s : Tables) (t p k : ℕ) : Type 0 where
+  pub ready : taskAt s t ≡ readyWord
+  pub links : List ℕ
+  pub owners : OwnersFrom s p links
+  pub end-ready : taskAt s (chainEnd t links) ≡ readyWord
+  pub not-back : In t links → ⊥
+  pub count : k ≡ length links
+
 -- "A task that ends still owning promises is named for exactly those": m promises, then n tasks
 pub record Named (B : ℕ) (s : Tables) (t m n : ℕ) (o : Outcome) : Type 0 where
   pub omitted : List ℕ
@@ -104,6 +113,10 @@ pub record Named (B : ℕ) (s : Tables) (t m n : ℕ) (o : Outcome) : Type 0 whe
   pub waited : (v : ℕ) → In v woken → (p : ℕ) × (taskAt s v ≡ waitsOn p) × (promiseAt s p ≡ ownedBy t)
   pub all-waited : (v p : ℕ) → taskAt s v ≡ waitsOn p → promiseAt s p ≡ ownedBy t → In v woken
   pub all-ready : (v : ℕ) → In v woken → taskAt (o .after) v ≡ readyWord
+  -- t has ended, and every other word is as it was
+  pub is-ended : taskAt (o .after) t ≡ endedWord
+  pub other-tasks : (v : ℕ) → v ≢ t → (In v woken → ⊥) → taskAt (o .after) v ≡ taskAt s v
+  pub other-promises : (q : ℕ) → (In q omitted → ⊥) → promiseAt (o .after) q ≡ promiseAt s q
 
 -- "every task that waits on p becomes ready. Answer: how many; the report holds them, rising"
 pub record Woken (s : Tables) (p n : ℕ) (o : Outcome) : Type 0 where
@@ -112,6 +125,10 @@ pub record Woken (s : Tables) (p n : ℕ) (o : Outcome) : Type 0 where
   pub waited : (v : ℕ) → In v (o .words) → taskAt s v ≡ waitsOn p
   pub all-waited : (v : ℕ) → taskAt s v ≡ waitsOn p → In v (o .words)
   pub all-ready : (v : ℕ) → In v (o .words) → taskAt (o .after) v ≡ readyWord
+  -- p is set, and every other word is as it was
+  pub is-set : promiseAt (o .after) p ≡ setWord
+  pub other-tasks : (v : ℕ) → (In v (o .words) → ⊥) → taskAt (o .after) v ≡ taskAt s v
+  pub other-promises : (q : ℕ) → q ≢ p → promiseAt (o .after) q ≡ promiseAt s q
 
 -- ---- demand 3
 

@@ -89,7 +89,9 @@ walkBy false ready k on = free k
 walkBy false lost k on = astray
 walkBy false (to u) k on = on u
 
--- "follow owners from p: t1 owns p, t2 owns what t1 awaits, and so on, until t or a ready task": from u, the k-th owner reached, at most n of them
+-- "follow owners from p: t1 owns p, t2 owns what t1 awaits, and so on, until t or a ready task": from u, the k-th owner reached, at most n of them. 000,
+-- Algorithm 2, lines 5 to 13: the loop ends at the asker (line 7) or at a task that awaits nothing (line 10), and else goes on to the owner of what u awaits (lines 12
+-- and 13). Line 8, no owner: for p itself `got` has answered, and nobody awaits such a promise in sound tables. Line 11 has nothing to catch: a step is one undivided action.
 unfoldable pub walk : ℕ → Tables → ℕ → ℕ → ℕ → Found
 walk zero s t u k = astray
 walk (suc n) s t u k = walkBy (eqb u t) (hop s u) k (λ x. walk n s t x (suc k))
@@ -101,6 +103,7 @@ pairs (suc k) s t p = t ∷ p ∷ pairs k s (ownerOf s p) (awaitedBy s (ownerOf 
 
 -- "If t is reached, answer cycle k, the owners reached, t included. The tables stay unchanged and t stays ready. If a ready task other than t is reached,
 -- t now waits on p; answer waits k, the owners reached." Sound tables lead nobody astray; without the test of them such a wait is entered.
+-- 000, Algorithm 2: where the assert of line 15 fails, the mark of line 3 is cleared (line 18), so here it is never written; where it holds, t blocks (line 16), marked.
 unfoldable pub followed : Tables → ℕ → ℕ → Found → Outcome
 followed s t p (back k) = outcome (Cycle k) s (pairs k s t p)
 followed s t p (free k) = outcome (Waits k) (withWait s t p) []
