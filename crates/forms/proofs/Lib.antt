@@ -6,4 +6,3 @@ pub mod Column
 pub mod ReadBack
 pub mod JudgingLaws
 pub mod Theorems
-pub mod Cases

@@ -36,6 +36,9 @@ impl Model {
                 .line(line, number, &mut session, &mut tasks, &mut promises, &mut report, &mut answer_line)
                 .expect("everything lent to the line entry is of the right size");
             output.extend_from_slice(&answer_line[..length]);
+            if self.is(Twist::SessionForgotten) {
+                session = Session::Unopened;
+            }
         }
         if number + 1 == full_line && self.is(Twist::FullWithoutLine) {
             output.extend_from_slice(self.full());

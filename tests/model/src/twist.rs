@@ -135,6 +135,7 @@ twists! {
     SecondOpenTaken, InLines, "a second open opens again";
     RefusedOpenOpens, InLines, "a refused open opens";
     PlaceUntold, InLines, "the place of a bad entry is left out";
+    SessionForgotten, InLines, "the first line is carried out, later ones find no session";
     EmptyLineSkipped, InLines, "an empty line gets no answer";
     LastLineDropped, InLines, "a last line without LF is not read";
     EmptyLastAnswered, InLines, "nothing after the last LF is answered";
