@@ -1,25 +1,68 @@
-// Runs the steps on either side of each edge of the rules and prints one line a case: its name, the answer's number and values, and the words of each table and of the
-// report that changed. `kept` says that none did. A refusal has its own number; 101 made, 102 set, 103 value, 104 blamed, 105 waits, 106 cycle, 107 started, 108 ended.
-mod actors;
-mod damage;
-mod lists;
-mod order;
+// Runs the cases of its input, the steps on either side of each edge of the rules, and prints one line a case: its name, the answer's number and values, and the
+// words of each table and of the report that changed. `kept` says that none did. A refusal has its own number; 101 made, 102 set, 103 value, 104 blamed, 105 waits,
+// 106 cycle, 107 started, 108 ended. The file stdin says how a case is written, and a line there that is not understood is said to be so.
+mod load;
 mod play;
-mod promises;
-mod rings;
+mod read;
 mod show;
-mod sizes;
-mod stories;
-mod waking;
+
+use load::Stage;
+ghost use Prim.Native.Nat.{_≤_};
+ghost use mathlib.Core.Path.{_≡_};
+ghost use lib.ListN.{length};
+
+// Whether a line says nothing to the program: it is empty, or a comment.
+fn is_silent(line: &[u8]) -> bool {
+    if line.len() == 0 {
+        return true;
+    }
+    line[0] == b'#'
+}
+
+// Does what a line says: it has a name and a colon if it is a case, then a word and numbers, which go to the list. Returns the stage for the next line.
+fn obey(line: &[u8], list: &mut [u16], board: &mut [u16], s: Stage) -> Stage
+    requires { ⌜ length (now board) ≡ 710 ⌝ }
+    requires { ⌜ (s .tasks ≤ 65) × (s .promises ≤ 257) × (s .room ≤ 388) ⌝ }
+    ensures { λ r. ⌜ (r .tasks ≤ 65) × (r .promises ≤ 257) × (r .room ≤ 388) ⌝ }
+{
+    if is_silent(line) {
+        return s;
+    }
+    let colon = read::end_of(line, 0, b':');
+    let start = read::command_start(line, colon);
+    let end = read::end_of(line, start, b' ');
+    let found = read::values(&line[end..], list);
+    let n = found.count;
+    if !found.good {
+        show::not_understood(&line[0..colon]);
+        return s;
+    }
+    if colon < line.len() {
+        return play::play(&line[0..colon], &line[start..end], &list[0..n], board, s);
+    }
+    load::load(&line[start..end], &list[0..n], board, s)
+}
+
+// Every line of the text, on tables that have no words before the first.
+fn run(text: &[u8], list: &mut [u16], board: &mut [u16])
+    requires { ⌜ length (now board) ≡ 710 ⌝ }
+{
+    let mut s = load::sized(0, 0);
+    let mut at = 0;
+    while at < text.len() {
+        let end = read::end_of(text, at, b'\n');
+        s = obey(&text[at..end], list, board, s);
+        at = end + 1;
+    }
+}
 
 fn main() {
-    sizes::cases();
-    damage::cases();
-    actors::cases();
-    promises::cases();
-    lists::cases();
-    order::cases();
-    rings::cases();
-    waking::cases();
-    stories::cases();
+    let mut text = [0u8; 32768];
+    let mut list = [0u16; 388];
+    let mut board = [0u16; 710];
+    let n = io::read_full(0, &mut text);
+    if n == 32768 {
+        show::text(b"the input does not fit\n");
+    }
+    run(&text[0..n], &mut list, &mut board);
 }

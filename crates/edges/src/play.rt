@@ -1,64 +1,54 @@
-// Taking a step on tables and printing what it did.
+// Playing a case: the steps are taken on a copy of what is on the board, and in a story what they leave goes back to it.
+use crate::load::Stage;
+use crate::load::fill;
+use crate::load::freshen;
+use crate::load::store;
+use crate::read::Step;
+use crate::read::list_of;
+use crate::read::step_of;
 use crate::show;
+use check::same;
 use ending::step_end;
 use getting::step_get;
 use making::step_new;
-use rules::Answer;
 use setting::step_set;
 use starting::step_async;
 use tables::at;
-use tables::put;
 ghost use Prim.Native.Nat.{_≤_};
+ghost use mathlib.Core.Path.{_≡_};
+ghost use lib.ListN.{length};
 
-// A step; the list of an async stands beside it.
-pub enum Step {
-    New(u16, u16),
-    Set(u16, u16),
-    Get(u16, u16),
-    Async(u16, u16),
-    End(u16),
-}
-
-fn take(
-    tasks: &mut [u16],
-    promises: &mut [u16],
-    report: &mut [u16],
-    step: Step,
-    list: &[u16],
-) -> Answer {
+// Takes the step and prints its answer.
+fn act(tasks: &mut [u16], promises: &mut [u16], report: &mut [u16], step: Step, list: &[u16]) {
     match step {
         Step::New(t, p) => {
-            return step_new(tasks, promises, report, t, p);
+            show::answer(step_new(tasks, promises, report, t, p));
         }
         Step::Set(t, p) => {
-            return step_set(tasks, promises, report, t, p);
+            show::answer(step_set(tasks, promises, report, t, p));
         }
         Step::Get(t, p) => {
-            return step_get(tasks, promises, report, t, p);
+            show::answer(step_get(tasks, promises, report, t, p));
         }
         Step::Async(t, c) => {
-            return step_async(tasks, promises, report, t, c, list);
+            show::answer(step_async(tasks, promises, report, t, c, list));
         }
         Step::End(t) => {
-            return step_end(tasks, promises, report, t);
+            show::answer(step_end(tasks, promises, report, t));
+        }
+        Step::Unknown => {
+            show::text(b" not understood");
         }
     }
 }
 
-// Writes the words of `from` to the front of `to`, as many as it has room for.
-pub fn copy(from: &[u16], to: &mut [u16]) {
+// Whether the words are those that the board has from index `start` on.
+fn same_words(words: &[u16], board: &[u16], start: usize) -> bool
+    requires { ⌜ start ≤ 322 ⌝ }
+{
     let mut i = 0;
-    while i < from.len() {
-        put(to, i, from[i]);
-        i += 1;
-    }
-}
-
-// Whether `b` begins with the words of `a`.
-fn same(a: &[u16], b: &[u16]) -> bool {
-    let mut i = 0;
-    while i < a.len() {
-        if a[i] != at(b, i) {
+    while i < words.len() {
+        if words[i] != at(board, start + i) {
             return false;
         }
         i += 1;
@@ -66,131 +56,133 @@ fn same(a: &[u16], b: &[u16]) -> bool {
     true
 }
 
-// Prints the words under a name where they are no longer those that were. Returns whether they are.
-fn show_changed(name: &[u8], words: &[u16], before: &[u16]) -> bool {
-    if same(words, before) {
+// Prints the words under a name where they are no longer those of the board. Returns whether they are.
+fn show_changed(name: &[u8], words: &[u16], board: &[u16], start: usize) -> bool
+    requires { ⌜ start ≤ 322 ⌝ }
+{
+    if same_words(words, board, start) {
         return true;
     }
     show::words(name, words);
     false
 }
 
-// Takes the step and prints the rest of its line: the answer, then each table and the report that changed, whole; `kept` where none did.
-pub fn step_told(
+// Prints each table and the report that is no longer as on the board, whole; `kept` where none is.
+fn show_changes(tasks: &[u16], promises: &[u16], report: &[u16], board: &[u16]) {
+    let a = show_changed(b", tasks", tasks, board, 0);
+    let b = show_changed(b", promises", promises, board, 65);
+    let c = show_changed(b", report", report, board, 322);
+    show::end_line(a & b & c);
+}
+
+// In a story the board has the tables and the report as they are now.
+fn keep(story: bool, tasks: &[u16], promises: &[u16], report: &[u16], board: &mut [u16]) {
+    if story {
+        store(tasks, board, 0);
+        store(promises, board, 65);
+        store(report, board, 322);
+    }
+}
+
+// Takes the step on a copy of the board, in these three, and prints what it did.
+fn act_told(
     tasks: &mut [u16],
     promises: &mut [u16],
     report: &mut [u16],
     step: Step,
     list: &[u16],
+    board: &mut [u16],
+    story: bool,
 ) {
-    let mut old_tasks = [0u16; 65];
-    let mut old_promises = [0u16; 257];
-    let mut old_report = [0u16; 388];
-    copy(tasks, &mut old_tasks);
-    copy(promises, &mut old_promises);
-    copy(report, &mut old_report);
-    show::answer(take(tasks, promises, report, step, list));
-    let a = show_changed(b", tasks", tasks, &old_tasks);
-    let b = show_changed(b", promises", promises, &old_promises);
-    let c = show_changed(b", report", report, &old_report);
-    if a & b & c {
-        show::text(b", kept");
-    }
-    show::text(b"\n");
+    fill(tasks, board, 0);
+    fill(promises, board, 65);
+    fill(report, board, 322);
+    act(tasks, promises, report, step, list);
+    show_changes(tasks, promises, report, board);
+    keep(story, tasks, promises, report, board);
 }
 
-pub fn least(a: usize, b: usize) -> usize
-    ensures { λ r. ⌜ (r ≤ a) × (r ≤ b) ⌝ }
+// Takes the step and prints the rest of its line.
+fn step_told(board: &mut [u16], s: Stage, step: Step, list: &[u16])
+    requires { ⌜ (s .tasks ≤ 65) × (s .promises ≤ 257) × (s .room ≤ 388) ⌝ }
 {
-    if a < b {
-        return a;
-    }
-    b
-}
-
-// Takes a step on a copy of the tables, with a report of `room` words, all 9.
-fn play_room(tasks: &[u16], promises: &[u16], room: usize, step: Step, list: &[u16]) {
-    let mut my_tasks = [0u16; 65];
-    let mut my_promises = [0u16; 257];
-    let mut my_report = [9u16; 388];
-    copy(tasks, &mut my_tasks);
-    copy(promises, &mut my_promises);
-    let m = least(tasks.len(), 65);
-    let n = least(promises.len(), 257);
-    let k = least(room, 388);
-    step_told(
-        &mut my_tasks[0..m],
-        &mut my_promises[0..n],
-        &mut my_report[0..k],
+    let mut tasks = [0u16; 65];
+    let mut promises = [0u16; 257];
+    let mut report = [0u16; 388];
+    let m = s.tasks;
+    let n = s.promises;
+    let k = s.room;
+    act_told(
+        &mut tasks[0..m],
+        &mut promises[0..n],
+        &mut report[0..k],
         step,
         list,
+        board,
+        s.story,
     );
 }
 
-// The least room that a report needs.
-fn room_for(tasks: usize, promises: usize) -> usize {
-    least(promises, 257) + 2 * least(tasks, 65)
+// Prints the words of both tables on the board, under a name of the first.
+fn show_tables(name: &[u8], board: &[u16], s: Stage)
+    requires { ⌜ length (now board) ≡ 710 ⌝ }
+    requires { ⌜ (s .tasks ≤ 65) × (s .promises ≤ 257) × (s .room ≤ 388) ⌝ }
+{
+    let m = s.tasks;
+    let e = 65 + s.promises;
+    show::words(name, &board[0..m]);
+    show::words(b", promises", &board[65..e]);
 }
 
-// One line: the name and what the step did, with a report of `room` words.
-pub fn room_case(
-    name: &[u8],
-    tasks: &[u16],
-    promises: &[u16],
-    room: usize,
-    step: Step,
-    list: &[u16],
-) {
+// Prints whether the tables on the board are sound.
+fn show_soundness(board: &[u16], s: Stage)
+    requires { ⌜ length (now board) ≡ 710 ⌝ }
+    requires { ⌜ (s .tasks ≤ 65) × (s .promises ≤ 257) × (s .room ≤ 388) ⌝ }
+{
+    let m = s.tasks;
+    let e = 65 + s.promises;
+    if sound::is_sound(&board[0..m], &board[65..e]) {
+        show::text(b" sound,");
+    } else {
+        show::text(b" damaged,");
+    }
+}
+
+// Makes the tables on the board fresh, and prints what became of them and what `new 0 0` did.
+fn fresh_told(board: &mut [u16], s: Stage)
+    requires { ⌜ length (now board) ≡ 710 ⌝ }
+    requires { ⌜ (s .tasks ≤ 65) × (s .promises ≤ 257) × (s .room ≤ 388) ⌝ }
+{
+    show::text(b" fresh");
+    show::number(freshen(board, s));
+    show_tables(b", tasks", board, s);
+    show::text(b", then");
+    step_told(board, s, Step::New(0, 0), &[]);
+}
+
+// One line: the name, and what the case did. Returns the stage for the next line.
+pub fn play(name: &[u8], word: &[u8], values: &[u16], board: &mut [u16], s: Stage) -> Stage
+    requires { ⌜ length (now board) ≡ 710 ⌝ }
+    requires { ⌜ (s .tasks ≤ 65) × (s .promises ≤ 257) × (s .room ≤ 388) ⌝ }
+    ensures { λ r. ⌜ (r .tasks ≤ 65) × (r .promises ≤ 257) × (r .room ≤ 388) ⌝ }
+{
     show::text(name);
     show::text(b":");
-    play_room(tasks, promises, room, step, list);
-}
-
-// The same with the least report.
-fn play(name: &[u8], tasks: &[u16], promises: &[u16], step: Step, list: &[u16]) {
-    room_case(
-        name,
-        tasks,
-        promises,
-        room_for(tasks.len(), promises.len()),
-        step,
-        list,
-    );
-}
-
-pub fn new_case(name: &[u8], tasks: &[u16], promises: &[u16], t: u16, p: u16) {
-    play(name, tasks, promises, Step::New(t, p), &[]);
-}
-
-pub fn set_case(name: &[u8], tasks: &[u16], promises: &[u16], t: u16, p: u16) {
-    play(name, tasks, promises, Step::Set(t, p), &[]);
-}
-
-pub fn get_case(name: &[u8], tasks: &[u16], promises: &[u16], t: u16, p: u16) {
-    play(name, tasks, promises, Step::Get(t, p), &[]);
-}
-
-pub fn async_case(name: &[u8], tasks: &[u16], promises: &[u16], t: u16, c: u16, list: &[u16]) {
-    play(name, tasks, promises, Step::Async(t, c), list);
-}
-
-pub fn end_case(name: &[u8], tasks: &[u16], promises: &[u16], t: u16) {
-    play(name, tasks, promises, Step::End(t), &[]);
-}
-
-// One line: the name, whether the tables are sound, and what `new t 1` did.
-pub fn sound_case(name: &[u8], tasks: &[u16], promises: &[u16], t: u16) {
-    show::text(name);
-    if sound::is_sound(tasks, promises) {
-        show::text(b": sound,");
-    } else {
-        show::text(b": damaged,");
+    let n = values.len();
+    if (n == 0) & same(word, b"tables") {
+        show_tables(b" tasks", board, s);
+        show::text(b"\n");
+        return s;
     }
-    play_room(
-        tasks,
-        promises,
-        room_for(tasks.len(), promises.len()),
-        Step::New(t, 1),
-        &[],
-    );
+    if (n == 0) & same(word, b"fresh") {
+        fresh_told(board, s);
+        return s;
+    }
+    if (n == 1) & same(word, b"sound") {
+        show_soundness(board, s);
+        step_told(board, s, Step::New(at(values, 0), 1), &[]);
+        return s;
+    }
+    step_told(board, s, step_of(word, values), list_of(values));
+    s
 }

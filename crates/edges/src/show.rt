@@ -3,63 +3,14 @@ ghost use Prim.Native.Nat.{_+_, _≤_, _<_};
 ghost use lib.ListN.{length};
 use rules::Answer;
 
-// An answer's number, how many values it has, and the values.
-pub struct Figures {
-    pub number: u16,
-    pub count: u16,
-    pub one: u16,
-    pub two: u16,
-}
-
-fn with_values(number: u16, count: u16, one: u16, two: u16) -> Figures {
-    Figures {
-        number,
-        count,
-        one,
-        two,
-    }
-}
-
-fn figures_of(a: Answer) -> Figures {
-    match a {
-        Answer::Opened => {
-            return with_values(100, 0, 0, 0);
-        }
-        Answer::Made => {
-            return with_values(101, 0, 0, 0);
-        }
-        Answer::Set(n) => {
-            return with_values(102, 1, n, 0);
-        }
-        Answer::Value => {
-            return with_values(103, 0, 0, 0);
-        }
-        Answer::Blamed(b) => {
-            return with_values(104, 1, b, 0);
-        }
-        Answer::Waits(k) => {
-            return with_values(105, 1, k, 0);
-        }
-        Answer::Cycle(k) => {
-            return with_values(106, 1, k, 0);
-        }
-        Answer::Started => {
-            return with_values(107, 0, 0, 0);
-        }
-        Answer::Ended { omitted, woken } => {
-            return with_values(108, 2, omitted, woken);
-        }
-        Answer::Refused(r) => {
-            return with_values(r, 0, 0, 0);
-        }
-        Answer::RefusedAt { number, place } => {
-            return with_values(number, 1, place, 0);
-        }
-    }
-}
-
 pub fn text(bytes: &[u8]) {
     io::write_all(1, bytes);
+}
+
+// Says that the line under a name asks for nothing that there is.
+pub fn not_understood(name: &[u8]) {
+    text(name);
+    text(b": not understood\n");
 }
 
 // A blank and a number.
@@ -68,24 +19,38 @@ pub fn number(w: u16) {
     io::print_decimal(1, w as u64);
 }
 
-fn values(x: Figures) {
-    let count = x.count;
-    let one = x.one;
-    let two = x.two;
-    if 0 < count {
-        number(one);
-    }
-    if 1 < count {
-        number(two);
-    }
+// An answer's number and its value.
+fn with_value(answer: u16, value: u16) {
+    number(answer);
+    number(value);
 }
 
 // The answer's number and its values.
 pub fn answer(a: Answer) {
-    let x = figures_of(a);
-    let n = x.number;
-    number(n);
-    values(x);
+    match a {
+        Answer::Opened => number(100),
+        Answer::Made => number(101),
+        Answer::Set(n) => with_value(102, n),
+        Answer::Value => number(103),
+        Answer::Blamed(b) => with_value(104, b),
+        Answer::Waits(k) => with_value(105, k),
+        Answer::Cycle(k) => with_value(106, k),
+        Answer::Started => number(107),
+        Answer::Ended { omitted, woken } => {
+            with_value(108, omitted);
+            number(woken);
+        }
+        Answer::Refused(r) => number(r),
+        Answer::RefusedAt { number: n, place } => with_value(n, place),
+    }
+}
+
+// The end of a step's line, which says whether every word was kept.
+pub fn end_line(kept: bool) {
+    if kept {
+        text(b", kept");
+    }
+    text(b"\n");
 }
 
 // How many words from index `from` on are the same as the one there.
