@@ -11,11 +11,11 @@ use lib.Seq.{take-append-seam, drop-append-seam, take-all}
 use Rattle.buffers.specs.Buffers.{fitting, Wrote, Added}
 use Rattle.words.proofs.ListLaws.{over-none}
 use Rattle.buffers.proofs.BufferLaws.{over-is, over-over, fitting-none, fitting-full, fitting-append, wrote-added}
-use Rattle.fields.specs.Fields.{tab}
+use Rattle.fields.specs.Fields.{tab, lineEnd}
 use Rattle.numbers.specs.Numbers.{dec}
 use Rattle.writers.specs.Texts.{fieldText, fieldsText}
 use Rattle.rules.specs.declared.Answer.{Answer}
-use Rattle.answers.specs.AnswerText.{wordOf, fieldsOf, answerText, lineEnd}
+use Rattle.answers.specs.AnswerText.{wordOf, fieldsOf, answerText}
 
 -- ---- one text after another
 

@@ -7,7 +7,7 @@
 -- Assumes nothing.
 use Prim.Native.Nat.{ℕ, _*_}
 use mathlib.Core.List.{List, [], _∷_, _++_}
-use Rattle.fields.specs.Fields.{tab}
+use Rattle.fields.specs.Fields.{tab, lineEnd}
 use Rattle.numbers.specs.Numbers.{dec}
 use Rattle.writers.specs.Texts.{fieldsText, partOf}
 use Rattle.rules.specs.declared.Answer.{Answer}
@@ -40,10 +40,6 @@ fieldsOf Started rs = []
 fieldsOf (Ended m n) rs = (m ∷ partOf rs 0 m) ++ n ∷ partOf rs m n
 fieldsOf (Refused r) rs = r ∷ []
 fieldsOf (RefusedAt r i) rs = r ∷ i ∷ []
-
--- "LF ends it"
-abbrev pub lineEnd : ℕ
-lineEnd = 10
 
 -- "Its fields go into the rest of the lent answer line, after the line number and a tab"
 unfoldable pub answerText : ℕ → Answer → List ℕ → List ℕ

@@ -20,6 +20,10 @@ use lib.Dec.{eqb, ltb}
 abbrev pub tab : ℕ
 tab = 9
 
+-- "LF ends it"
+abbrev pub lineEnd : ℕ
+lineEnd = 10
+
 unfoldable pub runTo : ℕ → List ℕ → ℕ
 runTo stop [] = 0
 runTo stop (b ∷ s) = cond (eqb b stop) 0 (suc (runTo stop s))

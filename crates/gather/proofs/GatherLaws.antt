@@ -10,10 +10,10 @@ use lib.Seq.{take-nil, length-take-le}
 use Rattle.buffers.specs.Buffers.{Added}
 use Rattle.words.proofs.ListLaws.{over-none}
 use Rattle.buffers.proofs.BufferLaws.{fitting-none}
-use Rattle.fields.specs.Fields.{runTo, endFrom}
+use Rattle.fields.specs.Fields.{lineEnd, runTo, endFrom}
 use Rattle.fields.proofs.FieldLaws.{runTo-most, endFrom-from, endFrom-within}
 use Rattle.gather.specs.declared.Got.the-variants as G
-use Rattle.gather.specs.Gather.{lineEnd, pieceOf, counted, gotOf, Gathered}
+use Rattle.gather.specs.Gather.{pieceOf, counted, gotOf, Gathered}
 use lib.ListN.{take-append-drop}
 
 -- ---- the piece

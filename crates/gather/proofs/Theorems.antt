@@ -5,7 +5,7 @@ use Prim.Native.Nat.{ℕ, _+_, _≤_, _<_}
 use mathlib.Core.List.{List, [], _++_, append-nil}
 use mathlib.Core.Bool.{Bool, true, false, cond}
 use lib.Dec.{ltb}
-use Rattle.fields.specs.Fields.{endFrom}
+use Rattle.fields.specs.Fields.{lineEnd, endFrom}
 use mathlib.Core.Path.{_≡_, refl, ap, sym, _∙_}
 use native.Mathlib.Omega.{arith}
 use native.Mathlib.Decide.{decLt}
@@ -18,7 +18,7 @@ use Rattle.buffers.proofs.BufferLaws.{over-is, fitting-none, fitting-room, fitt
 use Rattle.gather.specs.declared.Got.{Got}
 use Rattle.gather.specs.declared.Got.the-variants as G
 use Rattle.gather.specs.declared.Numbering.{Numbering}
-use Rattle.gather.specs.Gather.{lineEnd, pieceOf, counted, gotOf, countIn, Gathered, Holds, isLast, numberAfter}
+use Rattle.gather.specs.Gather.{pieceOf, counted, gotOf, countIn, Gathered, Holds, isLast, numberAfter}
 
 -- ---- the line so far
 

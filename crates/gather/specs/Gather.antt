@@ -2,7 +2,6 @@
 -- over the rest of a longer line (one refusal 14), takes a last line without LF if it isn't empty, and prints one answer line each.
 -- At the millionth line it prints `full` and stops".
 --
---   lineEnd            the byte that ends a line
 --   pieceOf s from     the bytes of a block s from `from` on that belong to the line there
 --   counted L n        how many bytes of a line are there, up to one more than a buffer of L holds: that says that it is too long
 --   gotOf L have s at  what a block brings to a line of which `have` bytes are there
@@ -21,15 +20,11 @@ use lib.ListN.{length, take, drop}
 use lib.Dec.{ltb, eqb}
 use Rattle.words.specs.Lists.{over}
 use Rattle.buffers.specs.Buffers.{fitting}
-use Rattle.fields.specs.Fields.{runTo, endFrom}
+use Rattle.fields.specs.Fields.{lineEnd, runTo, endFrom}
 use Rattle.gather.specs.declared.Got.{Got}
 use Rattle.gather.specs.declared.Got.the-variants as G
 use Rattle.gather.specs.declared.Numbering.{Numbering}
 use Rattle.gather.specs.declared.Numbering.the-variants as N
-
--- "LF ends it"
-abbrev pub lineEnd : ℕ
-lineEnd = 10
 
 unfoldable pub pieceOf : List ℕ → ℕ → List ℕ
 pieceOf s from = take (runTo lineEnd (drop from s)) (drop from s)

@@ -1,4 +1,5 @@
 // What is decided about lines when input comes in blocks.
+use words::Limit;
 ghost use mathlib.Core.Path.{_≡_};
 ghost use Prim.Native.Nat.{_+_, min};
 ghost use Rattle.gather.specs.Gather.{Gathered, isLast, numberAfter};
@@ -60,7 +61,7 @@ pub fn is_last(have: usize) -> bool
 pub fn number_after(n: u32) -> Numbering
     ensures { λ r. ⌜ r ≡ numberAfter n ⌝ }
 {
-    if n < 999999 {
+    if n < Limit::LINES {
         return Numbering::Line(n + 1);
     }
     Numbering::Full

@@ -11,7 +11,7 @@ use lib.ListN.{length, take, drop, length-replicate}
 use lib.Seq.{take-append-seam, take-all}
 use Rattle.words.specs.Words.{small, sizesInBounds}
 use Rattle.words.specs.Lists.{over}
-use Rattle.words.proofs.BoolLaws.{and-split}
+use Rattle.words.proofs.BoolLaws.{clash, and-split}
 use Rattle.rules.specs.Tables.{tables}
 use Rattle.rules.specs.Sessions.{freshRefusal}
 use Rattle.rules.specs.Refusals.{first}
@@ -71,7 +71,7 @@ count-most s = go (formOf s) refl
     go (F.Bad c) e = omega arith
 
 async-not-bad : {t c k j : ℕ} → F.Async t c k ≡ F.Bad j → ⊥
-async-not-bad e = let z : _≡_ {A = ℕ} 0 1 = cc in omega arith
+async-not-bad e = clash cc
 
 -- what the lent words then hold is the list of the line
 async-entries : (s o x : List ℕ) (t c k : ℕ) → formOf s ≡ F.Async t c k → x ≡ over (entriesOf s) o → take k x ≡ entriesOf s

@@ -5,6 +5,7 @@ use forms::judge;
 use sessions::Session;
 use sessions::act;
 use sessions::in_session;
+use words::Limit;
 ghost use mathlib.Core.Path.{_≡_};
 ghost use mathlib.Core.Bool.{true};
 ghost use Prim.Native.Nat.{_≤_};
@@ -32,9 +33,9 @@ fn lent_well(
 ) -> bool
     ensures { λ r. ⌜ r ≡ lentWell number session tasks promises report answer ⌝ }
 {
-    let numbered = (1 <= number) & (number <= 999999);
-    let tables = (tasks == 64) & (promises == 256);
-    let room = (report == 384) & (2048 <= answer);
+    let numbered = (1 <= number) & (number <= Limit::LINES);
+    let tables = (tasks == Limit::TASKS) & (promises == Limit::PROMISES);
+    let room = (report == Limit::REPORT) & (Limit::ANSWER <= answer);
     numbered & in_session(session) & tables & room
 }
 

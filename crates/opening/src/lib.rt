@@ -1,4 +1,6 @@
 // Fresh tables: task 0 is ready and every other word is 0.
+use words::PromiseWord;
+use words::TaskWord;
 ghost use mathlib.Core.Path.{_≡_};
 ghost use lib.ListN.{length};
 ghost use Rattle.words.specs.Words.{small};
@@ -23,8 +25,8 @@ pub fn fresh(tasks: &mut [u16], promises: &mut [u16]) -> u16
     if n != 0 {
         return n;
     }
-    tables::clear(tasks);
-    tables::put(tasks, 0, words::TaskWord::READY);
-    tables::clear(promises);
+    tables::fill(tasks, TaskWord::unused());
+    tables::put(tasks, 0, TaskWord::ready());
+    tables::fill(promises, PromiseWord::unmade());
     0
 }

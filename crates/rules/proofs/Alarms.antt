@@ -25,7 +25,7 @@ use Rattle.rules.proofs.GraphLaws.{unique, end-ready, ready-is-end, in-
 use Rattle.rules.proofs.Kept.{fits}
 use Rattle.rules.proofs.Moves.{det}
 use Rattle.rules.proofs.Named.{accepted}
-use Rattle.rules.proofs.Order.{clash}
+use Rattle.words.proofs.BoolLaws.{clash}
 use Rattle.rules.proofs.RefusalLaws.{actorRows-none, getRows-none}
 use Rattle.rules.proofs.SoundTest.{chain-bound, live-yes, sound-soundTest}
 use Rattle.rules.proofs.StepMoves.{get-chain}

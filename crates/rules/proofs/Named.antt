@@ -20,7 +20,8 @@ use Rattle.rules.specs.Steps.{Step, step-set, step-end, Outcome, awaits,
 use Rattle.rules.specs.Demands.{Named, Woken}
 use Rattle.rules.specs.declared.Answer.{Answer}
 use Rattle.rules.specs.declared.Answer.the-variants.{Set, Ended, Refused}
-use Rattle.rules.proofs.Order.{clash, guarded-none, guarded-some}
+use Rattle.words.proofs.BoolLaws.{clash}
+use Rattle.rules.proofs.Order.{guarded-none, guarded-some}
 use Rattle.rules.proofs.RefusalLaws.{actorRows-none, ownRows-none}
 use Rattle.rules.proofs.StepMoves.{awaits-hit, awaits-true, set-hit, set-miss, blame-hit, blame-miss, end-hit, end-miss, end-actor}
 

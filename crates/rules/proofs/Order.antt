@@ -11,7 +11,7 @@ use lib.Dec.{eqb, leb, ltb}
 use borrow.Author.Tests.{eqb-true, eqb-false, eq-eqb, ne-eqb, lt-ltb, ltb-true}
 use lib.ListN.{length}
 use Rattle.words.specs.Words.{Form, setWord, firstOwned}
-use Rattle.words.proofs.BoolLaws.{true-is-not-false}
+use Rattle.words.proofs.BoolLaws.{true-is-not-false, clash}
 use Rattle.rules.specs.Tables.{Tables, promiseAt}
 use Rattle.rules.specs.Answers.{numberOf, valuesOf}
 use Rattle.rules.specs.Refusals.{Row, first, earlier, tableRows, entryRows, entryRefusal, firstBad}
@@ -123,9 +123,6 @@ got-cases Q B s t p w v b c k = go (eqb w setWord) (leb B w) (walk (length (s .t
     go false false (back i) = c i
     go false false (free i) = k i
     go false false astray = k (length (s .tasks))
-
-pub clash : {A : Type 0} → _≡_ {A = ℕ} 0 1 → A
-clash e = absurd (omega arith)
 
 -- not a refusal by number alone
 abbrev not-plain : Answer → Type 0

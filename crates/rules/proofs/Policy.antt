@@ -22,7 +22,8 @@ use Rattle.rules.specs.declared.Answer.{Answer}
 use Rattle.rules.specs.declared.Answer.the-variants.{Made, Set, Value, Blamed, Started, Ended, Refused, RefusedAt}
 use Rattle.rules.proofs.Accepted.{entries-good}
 use Rattle.rules.proofs.Named.{accepted}
-use Rattle.rules.proofs.Order.{clash, got-cases, guarded-none, guarded-some}
+use Rattle.words.proofs.BoolLaws.{clash}
+use Rattle.rules.proofs.Order.{got-cases, guarded-none, guarded-some}
 use Rattle.rules.proofs.RefusalLaws.{actorRows-none, childRows-none, newRows-none, getRows-none, ownRows-none}
 use Rattle.rules.proofs.StepMoves.{read-given, blame-miss}
 

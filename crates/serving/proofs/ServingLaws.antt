@@ -8,9 +8,9 @@ use borrow.Author.Tests.{ltb-true}
 use lib.Dec.{ltb}
 use lib.ListN.{length}
 use Rattle.buffers.proofs.BufferLaws.{fitting-most}
-use Rattle.fields.specs.Fields.{endFrom}
+use Rattle.fields.specs.Fields.{lineEnd, endFrom}
 use Rattle.fields.proofs.FieldLaws.{endFrom-from}
-use Rattle.gather.specs.Gather.{lineEnd, pieceOf, counted, gatheredIn, gotOf, Gathered, numberAfter}
+use Rattle.gather.specs.Gather.{pieceOf, counted, gatheredIn, gotOf, Gathered, numberAfter}
 use Rattle.gather.specs.declared.Got.{Got}
 use Rattle.gather.specs.declared.Got.the-variants as G
 use Rattle.gather.specs.declared.Numbering.{Numbering}

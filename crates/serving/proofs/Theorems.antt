@@ -14,11 +14,11 @@ use lib.Seq.{take-all, take-append-seam, drop-drop, drop-cons}
 use Rattle.words.specs.Lists.{over}
 use Rattle.buffers.specs.Buffers.{fitting}
 use Rattle.buffers.proofs.BufferLaws.{over-is, fitting-room}
-use Rattle.fields.specs.Fields.{runTo, endFrom}
+use Rattle.fields.specs.Fields.{lineEnd, runTo, endFrom}
 use Rattle.forms.specs.Forms.{longestLine}
 use Rattle.forms.specs.Judging.{formOf, entriesOf}
 use Rattle.answers.specs.AnswerText.{answerText, longestAnswer}
-use Rattle.gather.specs.Gather.{lineEnd, pieceOf, counted, gatheredIn, gotOf, Holds, isLast, numberAfter}
+use Rattle.gather.specs.Gather.{pieceOf, counted, gatheredIn, gotOf, Holds, isLast, numberAfter}
 use Rattle.gather.specs.declared.Got.the-variants as G
 use Rattle.gather.specs.declared.Numbering.{Numbering}
 use Rattle.gather.specs.declared.Numbering.the-variants as N

@@ -20,7 +20,8 @@ use lib.Dec.{eqb}
 use lib.ListN.{length, take, drop, replicate}
 use Rattle.forms.specs.Forms.{longestLine}
 use Rattle.answers.specs.AnswerText.{longestAnswer}
-use Rattle.gather.specs.Gather.{lineEnd, isLast, numberAfter, Holds}
+use Rattle.fields.specs.Fields.{lineEnd}
+use Rattle.gather.specs.Gather.{isLast, numberAfter, Holds}
 use Rattle.gather.specs.declared.Numbering.{Numbering}
 use Rattle.gather.specs.declared.Numbering.the-variants as N
 use Rattle.sessions.specs.declared.Session.{Session}

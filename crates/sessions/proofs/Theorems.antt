@@ -1,12 +1,13 @@
 -- What is promised of a line in a session. Assumes nothing.
 use Prim.Native.Nat.{ℕ}
-use mathlib.Core.Path.{_≡_, refl, ap, _∙_}
+use mathlib.Core.Path.{_≡_, refl, ap, sym, _∙_}
 use mathlib.Core.List.{List, [], _++_}
 use mathlib.Core.Bool.{Bool, true, false, cond}
 use native.Mathlib.Omega.{arith}
 use lib.Dec.{eqb}
 use lib.ListN.{take, drop, take-append-drop}
 use Rattle.words.specs.Words.{small}
+use Rattle.words.proofs.BoolLaws.{clash}
 use Rattle.rules.specs.Tables.{Tables, tables}
 use Rattle.rules.specs.Sessions.{freshRefusal}
 use Rattle.rules.specs.Steps.{Step, step-new, step-set, step-get, step-async, step-end, Outcome, outcome, step}
@@ -18,7 +19,8 @@ use Rattle.forms.specs.declared.Form.{Form}
 use Rattle.forms.specs.declared.Form.the-variants as F
 use Rattle.sessions.specs.declared.Session.{Session}
 use Rattle.sessions.specs.declared.Session.the-variants.{Unopened, Open}
-use Rattle.sessions.specs.Sessions.{Deed, refusedBy, opened, stepped, openDeed, unopenedDeed, openOutcome, deedOf}
+use Rattle.sessions.specs.declared.Done.{Done}
+use Rattle.sessions.specs.Sessions.{Deed, refusedBy, opened, stepped, openDeed, unopenedDeed, openOutcome, deedOf, Does}
 
 -- nothing but the answer is left of a deed
 pub record OnlyAnswers (d : Deed) (session : Session) (ts ps : List ℕ) : Type 0 where
@@ -28,8 +30,8 @@ pub record OnlyAnswers (d : Deed) (session : Session) (ts ps : List ℕ) : Type 
   pub no-words : d .words ≡ []
 
 opened-no-refusal : {a : Answer} → Refusal a → a ≡ Opened → ⊥
-opened-no-refusal (plain r) e = let z : _≡_ {A = ℕ} 0 1 = cc in omega arith
-opened-no-refusal (placed r i) e = let z : _≡_ {A = ℕ} 0 1 = cc in omega arith
+opened-no-refusal (plain r) e = clash cc
+opened-no-refusal (placed r i) e = clash cc
 
 refused-unopened : (r : ℕ) (ts ps : List ℕ) → OnlyAnswers (refusedBy r Unopened ts ps) Unopened ts ps
 refused-unopened r ts ps = record { session-stays = refl; tasks-stay = refl; promises-stay = refl; no-words = refl }
@@ -89,3 +91,14 @@ only-open-opens (F.Async t c k) vs Unopened ts ps n h = refl
 only-open-opens (F.End t) vs Unopened ts ps n h = refl
 only-open-opens (F.Bad c) vs Unopened ts ps n h = refl
 only-open-opens f vs (Open T P) ts ps n h = refl
+
+-- 01, "How much each contract must say": any two outcomes that the contract of `act` allows coincide
+pub act-unique : {d : Deed} {rs : List ℕ} {p q : Done} {ts ts′ ps ps′ rs₁ rs₂ : List ℕ} → Does d rs p ts ps rs₁ → Does d rs q ts′ ps′ rs₂
+    → (p .answer ≡ q .answer) × (p .session ≡ q .session) × (ts ≡ ts′) × (ps ≡ ps′) × (rs₁ ≡ rs₂)
+act-unique g h = (
+  g .answer ∙ sym (h .answer),
+  g .session ∙ sym (h .session),
+  g .tasks ∙ sym (h .tasks),
+  g .promises ∙ sym (h .promises),
+  g .report ∙ sym (h .report),
+)

@@ -3,13 +3,11 @@
 use Prim.Native.Nat.{ℕ}
 use mathlib.Core.Path.{_≡_, refl, sym, ap, _∙_}
 use native.Mathlib.Omega.{arith}
+use Rattle.words.proofs.BoolLaws.{clash}
 use Rattle.rules.specs.Sound.{Hop}
 use Rattle.sound.specs.declared.Next.{Next}
 use Rattle.sound.specs.declared.Next.the-variants.{Ready, Lost, To}
 use Rattle.sound.specs.Hops.{hopRead}
-
-clash : {A : Type 0} → _≡_ {A = ℕ} 0 1 → A
-clash e = absurd (omega arith)
 
 hopRead-one : (r q : Next) → hopRead r ≡ hopRead q → r ≡ q
 hopRead-one Ready Ready e = refl

@@ -73,13 +73,13 @@ pub fn collect_word(table: &[u16], v: u16, out: &mut [u16], from: usize) -> usiz
     n
 }
 
-// Each word of the table becomes 0.
-pub fn clear(table: &mut [u16])
-    ensures { λ _. ⌜ now (table .exit) ≡ replicate (length (now (table .entry))) 0 ⌝ }
+// Each word of the table becomes `word`.
+pub fn fill(table: &mut [u16], word: u16)
+    ensures { λ _. ⌜ now (table .exit) ≡ replicate (length (now (table .entry))) word ⌝ }
 {
     let mut i = 0;
     while i < table.len() {
-        table[i] = 0;
+        table[i] = word;
         i += 1;
     }
 }

@@ -3,13 +3,11 @@
 use Prim.Native.Nat.{ℕ}
 use mathlib.Core.Path.{_≡_, refl, sym, ap, _∙_}
 use native.Mathlib.Omega.{arith}
+use Rattle.words.proofs.BoolLaws.{clash}
 use Rattle.rules.specs.Steps.{Found}
 use Rattle.walks.specs.declared.Trail.{Trail}
 use Rattle.walks.specs.declared.Trail.the-variants.{Astray, Back, Free}
 use Rattle.walks.specs.Trails.{foundRead}
-
-clash : {A : Type 0} → _≡_ {A = ℕ} 0 1 → A
-clash e = absurd (omega arith)
 
 foundRead-one : (r q : Trail) → foundRead r ≡ foundRead q → r ≡ q
 foundRead-one Astray Astray e = refl

@@ -43,3 +43,7 @@ or-right false b e = e
 
 pub or-no : (a b : Bool) → a ≡ false → b ≡ false → (a || b) ≡ false
 or-no a b e f = rw (e, f)
+
+-- what follows where two different constructors would be one
+pub clash : {A : Type 0} → _≡_ {A = ℕ} 0 1 → A
+clash e = absurd (omega arith)

@@ -3,3 +3,4 @@ pub mod BoolLaws
 pub mod ListLaws
 pub mod WordLaws
 pub mod LoopLaws
+pub mod Outcomes

@@ -34,13 +34,13 @@ module _ (g : ℕ → ℕ) where
       let e : i ≡ length before = omega (arith, r .within) in
       r .table ∙ ap (λ (k : ℕ). mapped g k before) e ∙ mapped-all g before
 
--- every word made 0
-abbrev pub zeroed : ℕ → ℕ
-zeroed w = 0
+-- every word made v
+abbrev pub filled : ℕ → ℕ → ℕ
+filled v w = v
 
-pub map-zeroed : (ws : List ℕ) → map zeroed ws ≡ replicate {A = ℕ} (length ws) 0
-map-zeroed [] = refl
-map-zeroed (w ∷ ws) = ap (λ (r : List ℕ). 0 ∷ r) (map-zeroed ws)
+pub map-filled : (v : ℕ) (ws : List ℕ) → map (filled v) ws ≡ replicate {A = ℕ} (length ws) v
+map-filled v [] = refl
+map-filled v (w ∷ ws) = ap (λ (r : List ℕ). v ∷ r) (map-filled v ws)
 
 -- ---- a loop that writes the places of the words that pass f, from `from` on
 

@@ -85,7 +85,7 @@ impl PromiseWord {
     }
 }
 
-// The limits of a session.
+// The limits of a session and of its lines.
 pub struct Limit {
     pub most: usize,
 }
@@ -94,6 +94,15 @@ impl Limit {
     pub const TASKS: usize = 64;
 
     pub const PROMISES: usize = 256;
+
+    // The words of a report that has room for every answer: P + 2T.
+    pub const REPORT: usize = 384;
+
+    // The bytes of an answer line that has room for every answer.
+    pub const ANSWER: usize = 2048;
+
+    // The largest line number.
+    pub const LINES: u32 = 999999;
 }
 
 // Whether the number of tasks and the number of promises are within their bounds.

@@ -1,24 +1,24 @@
 use Prim.Native.Nat.{_-_}
 use mathlib.Core.Path.{refl, _∙_}
 use lib.ListN.{length}
-use Rattle.words.proofs.LoopLaws.{Rewritten, rewritten-start, rewritten-turn, rewritten-end, zeroed, map-zeroed}
+use Rattle.words.proofs.LoopLaws.{Rewritten, rewritten-start, rewritten-turn, rewritten-end, filled, map-filled}
 use borrow.Author.Needs.{needs}
 use native.Mathlib.Omega.{arith}
 use Rattle.words.proofs.Tests.{tests}
-use Rattle.tables.proofs.clear.Statement.{statement}
-use Rattle.tables.proofs.clear.Tie as tie
-use Rattle.tables.proofs.clear.Reads as reads
-use Rattle.tables.proofs.clear.Lts as lts
+use Rattle.tables.proofs.fill.Statement.{statement}
+use Rattle.tables.proofs.fill.Tie as tie
+use Rattle.tables.proofs.fill.Reads as reads
+use Rattle.tables.proofs.fill.Lts as lts
 
 abbrev Inv-loop : tie.InvT-loop
-Inv-loop table₀ i₀ table i = Rewritten zeroed table₀ table i
+Inv-loop table₀ word i₀ table i = Rewritten (filled word) table₀ table i
 
 abbrev μ-loop : tie.MeasureT-loop
-μ-loop table₀ i₀ table i = length table₀ - i
+μ-loop table₀ word i₀ table i = length table₀ - i
 
 -- src/lib.rt:81:5
 loop-holds : tie.Need-loop-holds Inv-loop μ-loop
-loop-holds c = rewritten-start zeroed _
+loop-holds c = rewritten-start (filled _) _
 
 -- src/lib.rt:82:9
 mul-table : tie.Need-mul-table Inv-loop μ-loop
@@ -38,7 +38,7 @@ loop-less c = search (needs, tests)
 
 -- src/lib.rt:81:5
 loop-again : tie.Need-loop-again Inv-loop μ-loop
-loop-again c = rewritten-turn zeroed (c .before .loop .inv) (omega (arith, c .before .loop .inv .same)) refl
+loop-again c = rewritten-turn (filled _) (c .before .loop .inv) (omega (arith, c .before .loop .inv .same)) refl
 
 -- src/lib.rt:77:1
 same-length : tie.Need-same-length Inv-loop μ-loop
@@ -46,10 +46,10 @@ same-length c = c .before .loop .inv .same
 
 -- src/lib.rt:77:1
 returns : tie.Need-returns Inv-loop μ-loop
-returns c = rewritten-end zeroed (c .before .loop .inv) (omega (arith, c .before .loop .inv .same)) ∙ map-zeroed (c .before .before .args .table .now)
+returns c = rewritten-end (filled _) (c .before .loop .inv) (omega (arith, c .before .loop .inv .same)) ∙ map-filled _ (c .before .before .args .table .now)
 
-pub clear-spec : {M : Type 1} → statement M
-clear-spec =
+pub fill-spec : {M : Type 1} → statement M
+fill-spec =
     tie.close
     (tie.spec
     Inv-loop
