@@ -3,12 +3,20 @@
 -- shows no word of an older report is `shown-words` there.
 -- Assumes nothing.
 use Prim.Native.Nat.{ℕ}
-use mathlib.Core.List.{List}
-use mathlib.Core.Path.{_≡_}
+use mathlib.Core.List.{List, _∷_}
+use mathlib.Core.Path.{_≡_, refl}
 use Rattle.buffers.specs.Buffers.{Wrote}
 use Rattle.buffers.proofs.Theorems.{wrote-unique}
 use Rattle.rules.specs.declared.Answer.{Answer}
-use Rattle.answers.specs.AnswerText.{answerText}
+use Rattle.rules.specs.Answers.{numberOf, valuesOf}
+use Rattle.rules.specs.Demands.{Refusal, plain, placed}
+use Rattle.answers.specs.AnswerText.{fieldsOf, answerText}
+
+-- a refusal shows its number and its values, and nothing else
+pub refusal-shown : {a : Answer} (rs : List ℕ) → Refusal a → fieldsOf a rs ≡ numberOf a ∷ valuesOf a
+unfolding fieldsOf numberOf valuesOf
+refusal-shown rs (plain r) = refl
+refusal-shown rs (placed r i) = refl
 
 pub put-answer-unique : (n : ℕ) (a : Answer) (rs : List ℕ) {o x y : List ℕ} {r q : ℕ} → Wrote (answerText n a rs) o x r → Wrote (answerText n a rs) o y q
     → (x ≡ y) × (r ≡ q)

@@ -56,6 +56,7 @@ fn run(text: &[u8], list: &mut [u16], board: &mut [u16])
     }
 }
 
+// Reads the whole input and runs it.
 fn main() {
     let mut text = [0u8; 32768];
     let mut list = [0u16; 388];

@@ -53,6 +53,7 @@ pub fn command_start(line: &[u8], colon: usize) -> usize
     colon + 2
 }
 
+// The repetition of two numbers, if both are numbers.
 fn repeat_by(word: Num, times: Num) -> Repeat {
     match word {
         Num::Is(w) => match times {

@@ -3,6 +3,7 @@ ghost use Prim.Native.Nat.{_+_, _≤_, _<_};
 ghost use lib.ListN.{length};
 use rules::Answer;
 
+// The bytes as they are.
 pub fn text(bytes: &[u8]) {
     io::write_all(1, bytes);
 }
