@@ -4,8 +4,10 @@
 // written to standard output is held to stdout, and not proved.
 use sessions::Session;
 ghost use mathlib.Core.Path.{_≡_};
-ghost use Prim.Native.Nat.{_+_, _≤_, _<_};
-ghost use lib.ListN.{length};
+ghost use Prim.Native.Nat.{ℕ, _+_, _≤_, _<_};
+ghost use lib.ListN.{length, drop};
+ghost use Rattle.serving.specs.Serving.{turnOf};
+ghost use Rattle.bench.specs.Carrying.{Carries};
 
 // Where the program is: the place in the block, how many bytes of the line that has begun were counted, how many lines were answered, the session value, how many
 // bytes wait in the output array, and whether the program goes on.
@@ -35,7 +37,7 @@ fn start() -> State
 // Puts out the answers that wait. The program ends where the output is closed.
 fn put_out(out: &[u8], s: State) -> State
     requires { ⌜ s .used ≤ length (now out) ⌝ }
-    ensures { λ r. ⌜ (r .from ≡ s .from) × (r .used ≡ 0) ⌝ }
+    ensures { λ r. ⌜ (r .from ≡ s .from) × (r .used ≡ 0) × (r .have ≡ s .have) × (r .lines ≡ s .lines) × (r .session ≡ s .session) ⌝ }
 {
     let used = s.used;
     if used == 0 {
@@ -56,7 +58,7 @@ fn put_out(out: &[u8], s: State) -> State
 // Sees that the output array has room for an answer line.
 fn with_room(out: &[u8], s: State) -> State
     requires { ⌜ (s .used ≤ length (now out)) × (length (now out) ≡ 32768) ⌝ }
-    ensures { λ r. ⌜ (r .from ≡ s .from) × (r .used + 2048 ≤ length (now (out .entry))) ⌝ }
+    ensures { λ r. ⌜ (r .from ≡ s .from) × (r .used + 2048 ≤ length (now (out .entry))) × (r .have ≡ s .have) × (r .lines ≡ s .lines) × (r .session ≡ s .session) ⌝ }
 {
     if out.len() - s.used < 2048 {
         return put_out(out, s);
@@ -76,6 +78,7 @@ fn serve_line(
 ) -> State
     requires { ⌜ (was .from < length (now block)) × (was .used ≤ length (now out)) × (length (now out) ≡ 32768) ⌝ }
     ensures { λ r. ⌜ (was .from < r .from) × (r .from ≤ length (now (block .entry))) × (r .used ≤ length (now (out .entry))) ⌝ }
+    ensures { λ r. ⌜ ((n : ℕ) × Carries (turnOf (now (block .entry)) (was .from) (now (line .entry)) (was .have) (was .lines) (was .session) (now (tasks .entry)) (now (promises .entry)) (now (report .entry)) (drop n (now (out .entry)))) n r (now (line .exit)) (now (tasks .exit)) (now (promises .exit)) (now (report .exit))) ⌝ }
 {
     let s = with_room(out, was);
     let used = s.used;
@@ -105,7 +108,7 @@ fn serve_line(
 
 // The same place in a new block: its start.
 fn at_start(s: State) -> State
-    ensures { λ r. ⌜ (r .from ≡ 0) × (r .used ≡ s .used) ⌝ }
+    ensures { λ r. ⌜ (r .from ≡ 0) × (r .used ≡ s .used) × (r .have ≡ s .have) × (r .lines ≡ s .lines) × (r .session ≡ s .session) ⌝ }
 {
     let session = s.session;
     State {
