@@ -33,7 +33,7 @@ use Rattle.rules.proofs.RefusalLaws.{actorRows-none, getRows-none}
 use Rattle.rules.proofs.SoundTest.{chain-bound}
 use Rattle.rules.proofs.Promises.{test-means-sound}
 use Rattle.numbers.proofs.PrintLaws.{dec-six}
-use Rattle.writers.specs.Texts.{Every, no-more, one-more}
+use Rattle.writers.specs.Texts.{fieldsText, Every, no-more, one-more}
 use Rattle.writers.proofs.WriterLaws.{fieldsText-four}
 use Rattle.answers.specs.AnswerText.{wordOf, fieldsOf, answerText, longestAnswer}
 use Rattle.answers.proofs.ShownLaws.{wordsShown, fieldsOf-over, fieldsOf-length, fieldsOf-every, every-in, every-append}
@@ -57,20 +57,24 @@ wordOf-length (Ended m n) = omega arith
 wordOf-length (Refused r) = omega arith
 wordOf-length (RefusedAt r i) = omega arith
 
-text-fits : (n : ℕ) (a : Answer) (rs : List ℕ) → n ≤ 999999 → Every Low (fieldsOf a rs) → length (fieldsOf a rs) ≤ 322
-    → length (answerText n a rs) ≤ longestAnswer
+text-fits : (n : ℕ) (a : Answer) (rs : List ℕ) → n ≤ 999999 → length (fieldsText (fieldsOf a rs)) ≤ 4 * 322 → length (answerText n a rs) ≤ longestAnswer
 unfolding answerText
-text-fits n a rs h low few =
-    rw (length-append, length-append, length-append)
-    (omega (arith, dec-six n (omega arith), wordOf-length a, fieldsText-four (fieldsOf a rs) low))
+text-fits n a rs h few = rw (length-append, length-append, length-append) (omega (arith, dec-six n (omega arith), wordOf-length a))
+
+low-fits : (n : ℕ) (a : Answer) (rs : List ℕ) → n ≤ 999999 → Every Low (fieldsOf a rs) → length (fieldsOf a rs) ≤ 322 → length (answerText n a rs) ≤ longestAnswer
+low-fits n a rs h low few = text-fits n a rs h (omega (arith, fieldsText-four (fieldsOf a rs) low))
 
 pub refused-fits : (n r : ℕ) (rs : List ℕ) → n ≤ 999999 → r < 1000 → length (answerText n (Refused r) rs) ≤ longestAnswer
 unfolding fieldsOf
-refused-fits n r rs h l = text-fits n (Refused r) rs h (one-more l no-more) (omega arith)
+refused-fits n r rs h l = low-fits n (Refused r) rs h (one-more l no-more) (omega arith)
+
+pub placed-fits : (n r i : ℕ) (rs : List ℕ) → n ≤ 999999 → r ≤ 999999 → i ≤ 999999 → length (answerText n (RefusedAt r i) rs) ≤ longestAnswer
+unfolding fieldsOf fieldsText
+placed-fits n r i rs h k l = text-fits n (RefusedAt r i) rs h (rw (length-append, length-append) (omega (arith, dec-six r (omega arith), dec-six i (omega arith))))
 
 pub opened-fits : (n : ℕ) (rs : List ℕ) → n ≤ 999999 → length (answerText n Opened rs) ≤ longestAnswer
 unfolding fieldsOf
-opened-fits n rs h = text-fits n Opened rs h no-more (omega arith)
+opened-fits n rs h = low-fits n Opened rs h no-more (omega arith)
 
 -- ---- a step reports as many words as its answer shows
 
@@ -252,6 +256,6 @@ step-answer-fits n m s x rs h =
     let o = step small m s x in
     let d = step-modest m s x in
     let own = sym (shown-words small m s x rs) in
-    text-fits n (o .answer) (over (o .words) rs) h
+    low-fits n (o .answer) (over (o .words) rs) h
     (subst (Every Low) own (fieldsOf-every Low (o .answer) (o .words) (d .number) (d .values) (d .words)))
     (subst (λ (ns : List ℕ). length ns ≤ 322) own (omega (arith, fieldsOf-length (o .answer) (o .words), d .few)))

@@ -14,6 +14,7 @@ use Rattle.fields.specs.Fields.{fieldEnd, fieldAt}
 use Rattle.keywords.specs.Keywords.{keywordOf}
 use Rattle.keywords.specs.declared.Keyword.{Keyword}
 use Rattle.keywords.specs.declared.Keyword.the-variants as W
+use Rattle.keywords.proofs.LookupLaws.{true-not-false}
 use Rattle.records.specs.Records.{numberAt, withSecond, withFirst, pairAt, lastPair, ofPair, ofAsync, ofEnd, afterWord, recordOf}
 use Rattle.records.proofs.RecordLaws.{numberAt-ends}
 use Rattle.records.specs.declared.Numbered.{Numbered}
@@ -169,3 +170,12 @@ by-word s (W.Other k) e = verdict-bad k (word-bad s k e)
 pub verdict : (s : List ℕ) → Verdict s (ofRecord s (recordOf s))
 unfolding recordOf
 verdict s = by-word s (keywordOf (fieldAt s 0)) refl
+
+bad-is-not-good : (c : ℕ) {A : Type 0} → isGood (F.Bad c) ≡ true → A
+unfolding isGood
+bad-is-not-good c e = true-not-false (sym e)
+
+-- so the column of a bad line is the one where it goes bad
+pub verdict-column : {s : List ℕ} {f : Form} (c : ℕ) → Verdict s f → f ≡ F.Bad c → BadAt Parsed s c
+verdict-column {s} c (verdict-bad d b) e = let z : d ≡ c = cc in subst (BadAt Parsed s) z b
+verdict-column c (verdict-well f g p) e = bad-is-not-good c (subst (λ (h : Form). isGood h ≡ true) e g)

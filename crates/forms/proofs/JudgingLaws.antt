@@ -1,25 +1,26 @@
--- Laws of specs/Judging.antt that the code cites: one for each way out of judging a line, and that the column of a bad list lies
--- within the line.
+-- Laws of specs/Judging.antt that the code cites: one for each way out of judging a line, and that a bad line's
+-- column lies within it.
 -- Assumes nothing.
-use Prim.Native.Nat.{ℕ, _+_, _-_, _≤_, _<_}
+use Prim.Native.Nat.{ℕ, _+_, _≤_, _<_}
 use mathlib.Core.List.{List, []}
-use mathlib.Core.Path.{_≡_, refl, sym, _∙_}
+use mathlib.Core.Path.{_≡_, refl, sym, ap, _∙_}
 use native.Mathlib.Omega.{arith}
 use borrow.Author.Tests.{lt-ltb, le-ltb}
-use lib.ListN.{length, drop, length-drop}
+use lib.ListN.{length, drop}
 use Rattle.words.specs.Lists.{over}
 use Rattle.buffers.specs.Buffers.{fitting}
 use Rattle.words.proofs.ListLaws.{over-none}
 use Rattle.buffers.proofs.BufferLaws.{fitting-none}
 use Rattle.records.specs.Records.{recordOf}
 use Rattle.records.specs.declared.Record.{Record}
+use Rattle.records.specs.declared.Record.the-variants as R
 use Rattle.lists.specs.Lists.{listOf}
 use Rattle.lists.specs.declared.Listed.the-variants as E
-use Rattle.lists.proofs.ListLaws.{listOf-bad-within}
 use Rattle.forms.specs.declared.Form.{Form}
 use Rattle.forms.specs.declared.Form.the-variants as F
 use Rattle.forms.specs.Forms.{longestLine}
-use Rattle.forms.specs.Judging.{withList, ofRecord, formOf, entriesIn, entriesOf, Judged}
+use Rattle.forms.specs.Judging.{withList, ofRecord, formOf, entriesIn, entriesOf, InLine, Judged}
+use Rattle.forms.proofs.Column.{verdict, verdict-column}
 
 module _ (s : List ℕ) where
   pub formOf-long : longestLine < length s → formOf s ≡ F.Bad longestLine
@@ -62,5 +63,12 @@ pub withList-bad : (t c e j : ℕ) (s : List ℕ) → listOf (drop e s) ≡ E.Ba
 unfolding withList
 withList-bad t c e j s q = rw q
 
-pub list-within : (s : List ℕ) (e j : ℕ) → listOf (drop e s) ≡ E.Bad j → j ≤ length s - e
-list-within s e j q = omega (arith, listOf-bad-within (drop e s) j q, length-drop e s)
+-- ---- the column
+
+-- a line within its limit goes bad at a column within it
+pub record-in-line : (s : List ℕ) (r : Record) → length s ≤ longestLine → recordOf s ≡ r → InLine (ofRecord s r)
+record-in-line s r h q c e = omega (arith, verdict-column c (verdict s) (ap (ofRecord s) q ∙ e) .within)
+
+pub list-in-line : (s : List ℕ) (t c e : ℕ) → length s ≤ longestLine → recordOf s ≡ R.Async t c e → InLine (withList t c e (listOf (drop e s)))
+unfolding ofRecord
+list-in-line s t c e h q = record-in-line s (R.Async t c e) h q

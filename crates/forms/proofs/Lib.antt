@@ -6,3 +6,4 @@ pub mod Column
 pub mod ReadBack
 pub mod JudgingLaws
 pub mod Theorems
+pub mod Columns

@@ -29,10 +29,10 @@ use Rattle.lists.proofs.ListLaws.{valuesOf-most, listOf-count}
 use Rattle.forms.specs.declared.Form.{Form}
 use Rattle.forms.specs.declared.Form.the-variants as F
 use Rattle.writers.specs.Texts.{fieldsText, no-more, one-more}
-use Rattle.forms.specs.Forms.{longestLine, takes, AllSmall, Line, Formed, BadAt}
-use Rattle.forms.specs.Judging.{wordIn, numbersIn, countIn, withList, ofRecord, formOf, entriesIn, entriesOf, Good, Judged}
-use Rattle.forms.proofs.Parsed.{Parsed, formed, bad-formed}
-use Rattle.forms.proofs.Column.{isGood, Verdict, verdict-well, verdict-bad, verdict}
+use Rattle.forms.specs.Forms.{longestLine, takes, AllSmall, Line, Formed, Start, BadAt, ColumnOf, too-long, goes-bad}
+use Rattle.forms.specs.Judging.{wordIn, numbersIn, countIn, withList, ofRecord, formOf, entriesIn, entriesOf, Good, InLine, Judged}
+use Rattle.forms.proofs.Parsed.{formed, bad-formed}
+use Rattle.forms.proofs.Column.{Verdict, verdict-well, verdict-bad, verdict, verdict-column}
 use Rattle.forms.proofs.ReadBack.{line-read}
 use Rattle.forms.proofs.JudgingLaws.{formOf-long, formOf-within, entriesOf-long, entriesOf-within}
 
@@ -43,10 +43,6 @@ other-takes c n = refl
 bad-word : (c : ℕ) → wordIn (F.Bad c) ≡ W.Other c
 unfolding wordIn
 bad-word c = refl
-
-bad-is-not-good : (c : ℕ) {A : Type 0} → isGood (F.Bad c) ≡ true → A
-unfolding isGood
-bad-is-not-good c e = true-not-false (sym e)
 
 -- ---- the form
 
@@ -87,23 +83,33 @@ read-is-printed s g = go (verdict s) (formOf-within s h)
 -- ---- the column
 
 -- A BAD LINE'S COLUMN is that of the first byte with which it stops being the start of a well-formed line; 2,048 if it is too long
-pub bad-column : (s : List ℕ) (c : ℕ) → formOf s ≡ F.Bad c → ((longestLine < length s) × (c ≡ longestLine)) ⊎ ((length s ≤ longestLine) × BadAt Formed s c)
+pub bad-column : (s : List ℕ) (c : ℕ) → formOf s ≡ F.Bad c → ColumnOf s c
 bad-column s c e = go (decLt longestLine (length s))
   where
-    told : {f : Form} → Verdict s f → f ≡ F.Bad c → BadAt Formed s c
-    told (verdict-bad d b) q = let z : d ≡ c = cc in bad-formed s c (subst (BadAt Parsed s) z b)
-    told (verdict-well f q p) r = bad-is-not-good c (subst (λ (g : Form). isGood g ≡ true) r q)
+    go : Dec (longestLine < length s) → ColumnOf s c
+    go (yes h) = let q : F.Bad longestLine ≡ F.Bad c = sym (formOf-long s h) ∙ e in let z : longestLine ≡ c = cc in subst (ColumnOf s) z (too-long h)
+    go (no h) = let l : length s ≤ longestLine = omega arith in goes-bad c l (bad-formed s c (verdict-column c (verdict s) (sym (formOf-within s l) ∙ e)))
 
-    go : Dec (longestLine < length s) → ((longestLine < length s) × (c ≡ longestLine)) ⊎ ((length s ≤ longestLine) × BadAt Formed s c)
-    go (yes h) = let q : F.Bad longestLine ≡ F.Bad c = sym (formOf-long s h) ∙ e in let z : longestLine ≡ c = cc in inl (h, sym z)
-    go (no h) = let l : length s ≤ longestLine = omega arith in inr (l, told (verdict s) (sym (formOf-within s l) ∙ e))
+-- every column is at most 2,048
+pub column-in-line : (s : List ℕ) → InLine (formOf s)
+column-in-line s c e = go (bad-column s c e)
+  where
+    go : {d : ℕ} → ColumnOf s d → d ≤ longestLine
+    go (too-long h) = omega arith
+    go (goes-bad d h b) = omega (arith, b .within)
+
+-- whatever stands before the column is the start of a well-formed line, however much of it is taken
+pub starts-before : (L : List ℕ → Type 0) (s : List ℕ) (c d : ℕ) → BadAt L s c → d ≤ c → Start L (take d s)
+starts-before L s c d b h =
+    let (x, l) = b .start in
+    let q : c ≡ d + (c - d) = omega arith in
+    (
+      take (c - d) (drop d s) ++ x,
+      subst L (ap (λ (i : ℕ). take i s ++ x) q ∙ ap (λ (y : List ℕ). y ++ x) (take-add d (c - d) s) ∙ append-assoc (take d s) (take (c - d) (drop d s)) x) l,
+    )
 
 early : (L : List ℕ → Type 0) (s : List ℕ) (c d : ℕ) → BadAt L s c → BadAt L s d → c < d → ⊥
-early L s c d a b h =
-    let (x, l) = b .start in
-    let q : d ≡ suc c + (d - suc c) = omega arith in
-    a .stop (omega (arith, b .within)) (take (d - suc c) (drop (suc c) s) ++ x)
-    (subst L (ap (λ (i : ℕ). take i s ++ x) q ∙ ap (λ (y : List ℕ). y ++ x) (take-add (suc c) (d - suc c) s) ∙ append-assoc (take (suc c) s) (take (d - suc c) (drop (suc c) s)) x) l)
+early L s c d a b h = let (x, l) = starts-before L s d (suc c) b h in a .stop (omega (arith, b .within)) x l
 
 -- and no other column fits
 pub one-column : (L : List ℕ → Type 0) (s : List ℕ) (c d : ℕ) → BadAt L s c → BadAt L s d → c ≡ d
@@ -113,6 +119,36 @@ one-column L s c d a b = go (decLt c d) (decLt d c)
     go (yes h) y = absurd (early L s c d a b h)
     go (no h) (yes g) = absurd (early L s d c b a g)
     go (no h) (no g) = omega arith
+
+-- so a line that has a column is answered with it
+pub column-found : (s : List ℕ) {c : ℕ} → ColumnOf s c → formOf s ≡ F.Bad c
+column-found s (too-long h) = formOf-long s h
+column-found s (goes-bad c h b) = go (verdict s) (formOf-within s h)
+  where
+    go : {f : Form} → Verdict s f → formOf s ≡ f → formOf s ≡ F.Bad c
+    go (verdict-well f g p) e = absurd (b .not-one (formed s p))
+    go (verdict-bad d a) e = e ∙ ap F.Bad (one-column Formed s d c (bad-formed s d a) b)
+
+-- A LINE IS WELL FORMED AND SHORT ENOUGH, OR IT HAS A COLUMN
+pub form-or-column : (s : List ℕ) → (Formed s × (length s ≤ longestLine)) ⊎ ((c : ℕ) × ColumnOf s c)
+form-or-column s = go (decLt longestLine (length s))
+  where
+    judged : {f : Form} → length s ≤ longestLine → Verdict s f → (Formed s × (length s ≤ longestLine)) ⊎ ((c : ℕ) × ColumnOf s c)
+    judged h (verdict-well f g p) = inl (formed s p, h)
+    judged h (verdict-bad c b) = inr (c, goes-bad c h (bad-formed s c b))
+
+    go : Dec (longestLine < length s) → (Formed s × (length s ≤ longestLine)) ⊎ ((c : ℕ) × ColumnOf s c)
+    go (yes h) = inr (longestLine, too-long h)
+    go (no h) = judged (omega arith) (verdict s)
+
+-- and not both
+pub form-no-column : (s : List ℕ) {c : ℕ} → Formed s → length s ≤ longestLine → ColumnOf s c → ⊥
+form-no-column s w h (too-long g) = omega arith
+form-no-column s w h (goes-bad c g b) = b .not-one w
+
+-- a line has one column
+pub column-one : (s : List ℕ) {c d : ℕ} → ColumnOf s c → ColumnOf s d → c ≡ d
+column-one s {c} {d} p q = let z : F.Bad c ≡ F.Bad d = sym (column-found s p) ∙ column-found s q in cc
 
 -- ---- the list
 

@@ -7,7 +7,9 @@
 --   AllSmall ns        each number of ns is at most 65535
 --   Line w ns s        s is the line of the word w and the numbers ns
 --   Formed s           s is a well-formed line, its length limit aside
---   BadAt L s c        c is the column where s goes bad, for any language L of lines
+--   Start L s          s is the start of some line of L, for any language L of lines; NoStart L s: it is the start of none
+--   BadAt L s c        c is the column where s stops being the start of a line of L
+--   ColumnOf s c       c is the column of the line s, which is bad or too long
 -- Assumes nothing.
 use Prim.Native.Nat.{ℕ, suc, _≤_, _<_}
 use mathlib.Core.List.{List, _++_}
@@ -49,10 +51,22 @@ pub record Line (w : Keyword) (ns s : List ℕ) : Type 0 where
 abbrev pub Formed : List ℕ → Type 0
 Formed s = (w : Keyword) × (ns : List ℕ) × Line w ns s
 
+-- "the start of any well-formed line (its length limit aside)": something put after it makes it one; or nothing does
+abbrev pub Start : (List ℕ → Type 0) → List ℕ → Type 0
+Start L s = (x : List ℕ) × L (s ++ x)
+
+abbrev pub NoStart : (List ℕ → Type 0) → List ℕ → Type 0
+NoStart L s = (x : List ℕ) → L (s ++ x) → ⊥
+
 -- "the column, counted from 0, of the first byte with which the line so far stops being the start of any well-formed line ..
 -- or the line's length if only the end came too early"
 pub record BadAt (L : List ℕ → Type 0) (s : List ℕ) (c : ℕ) : Type 0 where
   pub within : c ≤ length s
-  pub start : (x : List ℕ) × L (take c s ++ x)
-  pub stop : c < length s → (x : List ℕ) → L (take (suc c) s ++ x) → ⊥
+  pub start : Start L (take c s)
+  pub stop : c < length s → NoStart L (take (suc c) s)
   pub not-one : L s → ⊥
+
+-- "A line that is too long gives column 2,048."
+pub data ColumnOf (s : List ℕ) : ℕ → Type 0 where
+  too-long : longestLine < length s → ColumnOf s longestLine
+  goes-bad : (c : ℕ) → length s ≤ longestLine → BadAt Formed s c → ColumnOf s c

@@ -7,10 +7,11 @@
 --   formOf s           the form of the line s, or `Bad` with the column where it goes bad
 --   entriesOf s        the entries of the line's list
 --   Good f             the answer f is one of the forms
+--   InLine f           the answer f is one of them, or its column is at most the length limit
 --   Judged s o x r     the line s was judged with the words o lent for its list: x is what they hold then, and r the answer
 -- Theorems.antt: the form read is the form printed, and a bad line's column is the one of `BadAt`.
 -- Assumes nothing.
-use Prim.Native.Nat.{ℕ, _+_}
+use Prim.Native.Nat.{ℕ, _+_, _≤_}
 use mathlib.Core.List.{List, [], _∷_}
 use mathlib.Core.Bool.{cond}
 use mathlib.Core.Path.{_≡_}
@@ -96,6 +97,10 @@ entriesOf s = cond (ltb longestLine (length s)) [] (entriesIn s (recordOf s))
 -- an answer that is one of the forms
 abbrev pub Good : Form → Type 0
 Good f = (c : ℕ) → f ≡ F.Bad c → ⊥
+
+-- a column that a word has room for
+abbrev pub InLine : Form → Type 0
+InLine f = (c : ℕ) → f ≡ F.Bad c → c ≤ longestLine
 
 -- the whole outcome of judging a line
 pub record Judged (s o x : List ℕ) (r : Form) : Type 0 where

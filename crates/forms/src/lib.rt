@@ -4,12 +4,12 @@ ghost use lib.ListN.{drop};
 ghost use Rattle.words.specs.Lists.{over};
 ghost use Rattle.buffers.specs.Buffers.{fitting};
 ghost use Rattle.lists.specs.Lists.{listOf, valuesOf};
-ghost use Rattle.forms.specs.Judging.{Judged, withList};
+ghost use Rattle.forms.specs.Judging.{InLine, Judged, withList};
 use lists::Listed;
 use records::Record;
 
 // The form of a line. `Async` holds the acting task, the child, and how many entries its list has: they stand in the lent words.
-// `Bad` holds the column.
+// `Bad` holds the column, which fits a word: it is at most `LONGEST`.
 pub enum Form {
     Open(u16, u16),
     New(u16, u16),
@@ -17,7 +17,7 @@ pub enum Form {
     Get(u16, u16),
     Async(u16, u16, usize),
     End(u16),
-    Bad(usize),
+    Bad(u16),
 }
 
 impl Form {
@@ -27,12 +27,13 @@ impl Form {
 
 // An async whose list starts at `at`.
 fn with_list(line: &[u8], t: u16, c: u16, at: usize, list: &mut [u16]) -> Form
+    requires { ⌜ InLine (withList t c at (listOf (drop at (now line)))) ⌝ }
     ensures { λ r. ⌜ r ≡ withList t c at (listOf (drop at (now (line .entry)))) ⌝ }
     ensures { λ r. ⌜ now (list .exit) ≡ over (fitting (valuesOf (drop at (now (line .entry)))) (now (list .entry))) (now (list .entry)) ⌝ }
 {
     match lists::list_after(line, at, list) {
         Listed::All(n) => Form::Async(t, c, n),
-        Listed::Bad(j) => Form::Bad(at + j),
+        Listed::Bad(j) => Form::Bad((at + j) as u16),
     }
 }
 
@@ -41,7 +42,7 @@ pub fn judge(line: &[u8], list: &mut [u16]) -> Form
     ensures { λ r. ⌜ Judged (now (line .entry)) (now (list .entry)) (now (list .exit)) r ⌝ }
 {
     if Form::LONGEST < line.len() {
-        return Form::Bad(Form::LONGEST);
+        return Form::Bad(Form::LONGEST as u16);
     }
     match records::record_of(line) {
         Record::Open(a, b) => Form::Open(a, b),
@@ -50,6 +51,6 @@ pub fn judge(line: &[u8], list: &mut [u16]) -> Form
         Record::Get(t, p) => Form::Get(t, p),
         Record::Async(t, c, at) => with_list(line, t, c, at, list),
         Record::End(t) => Form::End(t),
-        Record::Bad(c) => Form::Bad(c),
+        Record::Bad(c) => Form::Bad(c as u16),
     }
 }

@@ -16,7 +16,7 @@ use Rattle.buffers.proofs.BufferLaws.{over-fitting-snoc, fitting-none, fitting-
 use Rattle.records.specs.Records.{numberAt}
 use Rattle.records.specs.declared.Numbered.{Numbered}
 use Rattle.records.specs.declared.Numbered.the-variants as S
-use Rattle.records.proofs.RecordLaws.{numberAt-ends, numberAt-bad-within}
+use Rattle.records.proofs.RecordLaws.{numberAt-ends}
 use Rattle.lists.specs.declared.Listed.the-variants.{All, Bad}
 use Rattle.lists.specs.Lists.{withEntry, valuesFrom, pastEntry, listedFrom, valuesOf, listOf, Listing}
 
@@ -163,22 +163,3 @@ module _ (s : List ℕ) where
     pub listOf-count : listOf s ≡ All m → m ≡ length (valuesOf s)
     unfolding listOf valuesOf
     listOf-count q = omega (arith, count-from (length s) 0 0 q)
-
-    within-step : (f n e : ℕ) → ((k i : ℕ) → listedFrom f k s i ≡ Bad m → m ≤ length s) → (r : Numbered) → numberAt s e ≡ r
-        → (b : Bool) → ltb e (length s) ≡ b → cond b (pastEntry (listedFrom f (n + 1) s) r) (All n) ≡ Bad m → m ≤ length s
-    unfolding pastEntry
-    within-step f n e ih r q false b k = let z : _≡_ {A = ℕ} 0 1 = cc in absurd (omega arith)
-    within-step f n e ih (S.Bad c) q true b k =
-        let z : c ≡ m = cc in
-        omega (arith, numberAt-bad-within s e (ltb-true e (length s) b) c q)
-    within-step f n e ih (S.Is v i) q true b k = ih (n + 1) i k
-
-    within-from : (f n e : ℕ) → listedFrom f n s e ≡ Bad m → m ≤ length s
-    unfolding listedFrom
-    within-from zero n e k = let z : _≡_ {A = ℕ} 0 1 = cc in absurd (omega arith)
-    within-from (suc f) n e k = within-step f n e (λ j i h. within-from f j i h) (numberAt s e) refl (ltb e (length s)) refl k
-
-    -- the column of a bad byte lies within the list
-    pub listOf-bad-within : listOf s ≡ Bad m → m ≤ length s
-    unfolding listOf
-    listOf-bad-within k = within-from (length s) 0 0 k

@@ -1,5 +1,5 @@
--- Laws of specs/Records.antt: one for each way out of reading a number, that its end lies past the tab and within the line, that a
--- bad column lies within it, and that a line goes by its first field's word.
+-- Laws of specs/Records.antt: one for each way out of reading a number, that its end lies past the tab and within the line, and
+-- that a line goes by its first field's word.
 -- Assumes nothing.
 use Prim.Native.Nat.{ℕ, _+_, _≤_, _<_}
 use mathlib.Core.List.{List}
@@ -64,18 +64,6 @@ module _ (s : List ℕ) (e : ℕ) (h : e < length s) where
   pub numberAt-ends : (v n : ℕ) → numberAt s e ≡ S.Is v n → Ends s e n
   unfolding numberAt
   numberAt-ends v n q = ends-step v n (numberOf (fieldAt s (e + 1))) refl (rw (lt-ltb e (length s) h) at q)
-
-  within-step : (c : ℕ) (r : Num) → r ≡ numberOf (fieldAt s (e + 1)) → placed (e + 1) (fieldEnd s (e + 1)) r ≡ S.Bad c → c ≤ length s
-  unfolding placed
-  within-step c (N.Is v) q p = let z : _≡_ {A = ℕ} 0 1 = cc in absurd (omega arith)
-  within-step c (N.Bad k) q p =
-      let z : e + 1 + k ≡ c = cc in
-      omega (arith, bad-within s e (fieldAt s (e + 1)) h refl k (sym q))
-
-  -- a bad byte's column lies within the line
-  pub numberAt-bad-within : (c : ℕ) → numberAt s e ≡ S.Bad c → c ≤ length s
-  unfolding numberAt
-  numberAt-bad-within c q = within-step c (numberOf (fieldAt s (e + 1))) refl (rw (lt-ltb e (length s) h) at q)
 
 -- ---- the line
 

@@ -47,10 +47,10 @@ refusal-number F T P e = not-is-false (sizesInBounds F T P) (first-none 1 (not (
 pub freshRefusal-none : (T P : ℕ) → freshRefusal small T P ≡ 0 → (T ≤ 64) × (P ≤ 256)
 freshRefusal-none T P e = let s = sizesInBounds-true small T P (refusal-number small T P e) in (s .tasks, s .promises)
 
-pub does-refused : {d : Deed} (ts ps : List ℕ) (session : Session) (r : ℕ) {x : Done} → d ≡ refusedBy r session ts ps → x .answer ≡ Refused r → x .session ≡ session → Does d [] x ts ps []
-does-refused ts ps session r e a b = rw e (record { answer = a; session = b; tasks = refl; promises = refl; report = sym (over-none []) })
+pub does-refused : {d : Deed} (ts ps : List ℕ) (session : Session) (a : Answer) {x : Done} → d ≡ refusedBy a session ts ps → x .answer ≡ a → x .session ≡ session → Does d [] x ts ps []
+does-refused ts ps session a e q b = rw e (record { answer = q; session = b; tasks = refl; promises = refl; report = sym (over-none []) })
 
-pub openDeed-refused : (ts ps : List ℕ) (T P r : ℕ) → r ≡ freshRefusal small T P → r ≢ 0 → openDeed ts ps T P ≡ refusedBy r Unopened ts ps
+pub openDeed-refused : (ts ps : List ℕ) (T P r : ℕ) → r ≡ freshRefusal small T P → r ≢ 0 → openDeed ts ps T P ≡ refusedBy (Refused r) Unopened ts ps
 unfolding openDeed
 openDeed-refused ts ps T P r e n = rw (← e, ne-eqb r 0 n)
 
@@ -78,7 +78,7 @@ unopened-words : (f : LineForm) (ts ps : List ℕ) → unopenedDeed f ts ps .wor
 unfolding unopenedDeed openDeed
 unopened-words (F.Open T P) ts ps = go (eqb (freshRefusal small T P) 0)
   where
-    go : (b : Bool) → cond b (opened T P ts ps) (refusedBy (freshRefusal small T P) Unopened ts ps) .words ≡ []
+    go : (b : Bool) → cond b (opened T P ts ps) (refusedBy (Refused (freshRefusal small T P)) Unopened ts ps) .words ≡ []
     go true = refl
     go false = refl
 unopened-words (F.New t p) ts ps = refl

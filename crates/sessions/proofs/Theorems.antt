@@ -20,7 +20,7 @@ use Rattle.forms.specs.declared.Form.the-variants as F
 use Rattle.sessions.specs.declared.Session.{Session}
 use Rattle.sessions.specs.declared.Session.the-variants.{Unopened, Open}
 use Rattle.sessions.specs.declared.Done.{Done}
-use Rattle.sessions.specs.Sessions.{Deed, refusedBy, opened, stepped, openDeed, unopenedDeed, openOutcome, deedOf, Does}
+use Rattle.sessions.specs.Sessions.{Deed, badAt, refusedBy, opened, stepped, openDeed, unopenedDeed, openOutcome, deedOf, Does}
 
 -- nothing but the answer is left of a deed
 pub record OnlyAnswers (d : Deed) (session : Session) (ts ps : List ℕ) : Type 0 where
@@ -33,8 +33,8 @@ opened-no-refusal : {a : Answer} → Refusal a → a ≡ Opened → ⊥
 opened-no-refusal (plain r) e = clash cc
 opened-no-refusal (placed r i) e = clash cc
 
-refused-unopened : (r : ℕ) (ts ps : List ℕ) → OnlyAnswers (refusedBy r Unopened ts ps) Unopened ts ps
-refused-unopened r ts ps = record { session-stays = refl; tasks-stay = refl; promises-stay = refl; no-words = refl }
+refused-unopened : (a : Answer) (ts ps : List ℕ) → OnlyAnswers (refusedBy a Unopened ts ps) Unopened ts ps
+refused-unopened a ts ps = record { session-stays = refl; tasks-stay = refl; promises-stay = refl; no-words = refl }
 
 -- an outcome that leaves the first words of the tables leaves the tables
 stepped-same : (T P : ℕ) (ts ps : List ℕ) (o : Outcome) → o .after ≡ tables (take T ts) (take P ps) → o .words ≡ [] → OnlyAnswers (stepped T P ts ps o) (Open T P) ts ps
@@ -50,15 +50,15 @@ pub a-refused-line-only-answers : (f : Form) (vs : List ℕ) (session : Session)
 unfolding deedOf unopenedDeed openDeed openOutcome
 a-refused-line-only-answers (F.Open T P) vs Unopened ts ps n r = go (eqb (freshRefusal small T P) 0) r
   where
-    go : (b : Bool) → let d = cond b (opened T P ts ps) (refusedBy (freshRefusal small T P) Unopened ts ps) in Refusal (d .answer) → OnlyAnswers d Unopened ts ps
+    go : (b : Bool) → let d = cond b (opened T P ts ps) (refusedBy (Refused (freshRefusal small T P)) Unopened ts ps) in Refusal (d .answer) → OnlyAnswers d Unopened ts ps
     go true r = absurd (opened-no-refusal r refl)
-    go false r = refused-unopened (freshRefusal small T P) ts ps
-a-refused-line-only-answers (F.New t p) vs Unopened ts ps n r = refused-unopened 15 ts ps
-a-refused-line-only-answers (F.Set t p) vs Unopened ts ps n r = refused-unopened 15 ts ps
-a-refused-line-only-answers (F.Get t p) vs Unopened ts ps n r = refused-unopened 15 ts ps
-a-refused-line-only-answers (F.Async t c k) vs Unopened ts ps n r = refused-unopened 15 ts ps
-a-refused-line-only-answers (F.End t) vs Unopened ts ps n r = refused-unopened 15 ts ps
-a-refused-line-only-answers (F.Bad c) vs Unopened ts ps n r = refused-unopened 14 ts ps
+    go false r = refused-unopened (Refused (freshRefusal small T P)) ts ps
+a-refused-line-only-answers (F.New t p) vs Unopened ts ps n r = refused-unopened (Refused 15) ts ps
+a-refused-line-only-answers (F.Set t p) vs Unopened ts ps n r = refused-unopened (Refused 15) ts ps
+a-refused-line-only-answers (F.Get t p) vs Unopened ts ps n r = refused-unopened (Refused 15) ts ps
+a-refused-line-only-answers (F.Async t c k) vs Unopened ts ps n r = refused-unopened (Refused 15) ts ps
+a-refused-line-only-answers (F.End t) vs Unopened ts ps n r = refused-unopened (Refused 15) ts ps
+a-refused-line-only-answers (F.Bad c) vs Unopened ts ps n r = refused-unopened (badAt c) ts ps
 a-refused-line-only-answers f vs (Open T P) ts ps n r = in-session f r
   where
     s : Tables
@@ -74,14 +74,14 @@ a-refused-line-only-answers f vs (Open T P) ts ps n r = in-session f r
     in-session (F.Get t p) r = taken (step-get t p) r
     in-session (F.Async t c k) r = taken (step-async t c vs) r
     in-session (F.End t) r = taken (step-end t) r
-    in-session (F.Bad c) r = stepped-same T P ts ps (outcome (Refused 14) s []) refl refl
+    in-session (F.Bad c) r = stepped-same T P ts ps (outcome (badAt c) s []) refl refl
 
 -- no line but an accepted open changes the session value
 pub only-open-opens : (f : Form) (vs : List ℕ) (session : Session) (ts ps : List ℕ) (n : ℕ) → (deedOf f vs session ts ps n .answer ≡ Opened → ⊥) → deedOf f vs session ts ps n .session ≡ session
 unfolding deedOf unopenedDeed openDeed
 only-open-opens (F.Open T P) vs Unopened ts ps n h = go (eqb (freshRefusal small T P) 0) h
   where
-    go : (b : Bool) → let d = cond b (opened T P ts ps) (refusedBy (freshRefusal small T P) Unopened ts ps) in (d .answer ≡ Opened → ⊥) → d .session ≡ Unopened
+    go : (b : Bool) → let d = cond b (opened T P ts ps) (refusedBy (Refused (freshRefusal small T P)) Unopened ts ps) in (d .answer ≡ Opened → ⊥) → d .session ≡ Unopened
     go true h = absurd (h refl)
     go false h = refl
 only-open-opens (F.New t p) vs Unopened ts ps n h = refl

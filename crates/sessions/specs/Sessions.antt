@@ -2,6 +2,7 @@
 --
 --   inSession session            the session value is one that a session may have
 --   Deed                         what a line does: its answer, the session value, both tables and the report words
+--   badAt column                 the answer to a line that goes bad at the column
 --   unopenedDeed f ts ps         what a line of the form f does before a session is opened
 --   openOutcome f vs n s         its outcome in an open session, on the tables s
 --   deedOf f vs session ts ps n  what it does
@@ -19,7 +20,7 @@ use Rattle.rules.specs.Tables.{Tables, tables, fresh}
 use Rattle.rules.specs.Sessions.{freshRefusal}
 use Rattle.rules.specs.Steps.{step-new, step-set, step-get, step-async, step-end, Outcome, outcome, step}
 use Rattle.rules.specs.declared.Answer.{Answer}
-use Rattle.rules.specs.declared.Answer.the-variants.{Opened, Refused}
+use Rattle.rules.specs.declared.Answer.the-variants.{Opened, Refused, RefusedAt}
 use Rattle.forms.specs.declared.Form.{Form}
 use Rattle.forms.specs.declared.Form.the-variants as F
 use Rattle.sessions.specs.declared.Session.{Session}
@@ -40,9 +41,13 @@ pub record Deed : Type 0 where
   pub promises : List ℕ
   pub words : List ℕ
 
+-- 02, request 1: "Refusal 14 should carry the column"
+abbrev pub badAt : ℕ → Answer
+badAt column = RefusedAt 14 column
+
 -- 14, 15 and the refusal of an open "change no table and no report"
-abbrev pub refusedBy : ℕ → Session → List ℕ → List ℕ → Deed
-refusedBy r session ts ps = record { answer = Refused r; session = session; tasks = ts; promises = ps; words = [] }
+abbrev pub refusedBy : Answer → Session → List ℕ → List ℕ → Deed
+refusedBy a session ts ps = record { answer = a; session = session; tasks = ts; promises = ps; words = [] }
 
 -- "An accepted open doesn't test the old words; it writes fresh tables into the first T and first P words."
 abbrev pub opened : ℕ → ℕ → List ℕ → List ℕ → Deed
@@ -56,16 +61,16 @@ stepped T P ts ps o = record { answer = o .answer; session = Open T P; tasks = o
 
 -- "Refusal 15: well formed but out of place, a step before open"; "a refused open (T not 1 to 64, P above 256: refusal 1) .. leaves the session unopened"
 unfoldable pub openDeed : List ℕ → List ℕ → ℕ → ℕ → Deed
-openDeed ts ps T P = cond (eqb (freshRefusal small T P) 0) (opened T P ts ps) (refusedBy (freshRefusal small T P) Unopened ts ps)
+openDeed ts ps T P = cond (eqb (freshRefusal small T P) 0) (opened T P ts ps) (refusedBy (Refused (freshRefusal small T P)) Unopened ts ps)
 
 unfoldable pub unopenedDeed : Form → List ℕ → List ℕ → Deed
 unopenedDeed (F.Open T P) ts ps = openDeed ts ps T P
-unopenedDeed (F.New t p) ts ps = refusedBy 15 Unopened ts ps
-unopenedDeed (F.Set t p) ts ps = refusedBy 15 Unopened ts ps
-unopenedDeed (F.Get t p) ts ps = refusedBy 15 Unopened ts ps
-unopenedDeed (F.Async t c n) ts ps = refusedBy 15 Unopened ts ps
-unopenedDeed (F.End t) ts ps = refusedBy 15 Unopened ts ps
-unopenedDeed (F.Bad column) ts ps = refusedBy 14 Unopened ts ps
+unopenedDeed (F.New t p) ts ps = refusedBy (Refused 15) Unopened ts ps
+unopenedDeed (F.Set t p) ts ps = refusedBy (Refused 15) Unopened ts ps
+unopenedDeed (F.Get t p) ts ps = refusedBy (Refused 15) Unopened ts ps
+unopenedDeed (F.Async t c n) ts ps = refusedBy (Refused 15) Unopened ts ps
+unopenedDeed (F.End t) ts ps = refusedBy (Refused 15) Unopened ts ps
+unopenedDeed (F.Bad column) ts ps = refusedBy (badAt column) Unopened ts ps
 
 -- ---- in an open session
 
@@ -77,7 +82,7 @@ openOutcome (F.Set t p) vs n s = step small n s (step-set t p)
 openOutcome (F.Get t p) vs n s = step small n s (step-get t p)
 openOutcome (F.Async t c k) vs n s = step small n s (step-async t c vs)
 openOutcome (F.End t) vs n s = step small n s (step-end t)
-openOutcome (F.Bad column) vs n s = outcome (Refused 14) s []
+openOutcome (F.Bad column) vs n s = outcome (badAt column) s []
 
 -- ---- what a line does
 

@@ -17,7 +17,7 @@ ghost use lib.ListN.{length, take};
 ghost use Rattle.rules.specs.Tables.{tables as tablesOf};
 ghost use Rattle.rules.specs.Contracts.{Gives};
 ghost use Rattle.forms.specs.Judging.{countIn};
-ghost use Rattle.sessions.specs.Sessions.{inSession, unopenedDeed, openDeed, openOutcome, deedOf, Does, InPart};
+ghost use Rattle.sessions.specs.Sessions.{inSession, badAt, unopenedDeed, openDeed, openOutcome, deedOf, Does, InPart};
 
 // The session value: unopened, or the numbers of tasks and promises of the session.
 pub enum Session {
@@ -41,6 +41,16 @@ pub fn in_session(session: Session) -> bool
     }
 }
 
+// The answer to a line that goes bad at the column.
+fn bad_at(column: u16) -> Answer
+    ensures { λ r. ⌜ r ≡ badAt column ⌝ }
+{
+    Answer::RefusedAt {
+        number: 14,
+        place: column,
+    }
+}
+
 // A line in an open session, on the tables of the session.
 fn in_open(
     form: Form,
@@ -59,7 +69,7 @@ fn in_open(
         Form::Get(t, p) => step_get(tasks, promises, report, t, p),
         Form::Async(t, c, n) => step_async(tasks, promises, report, t, c, &list[0..n]),
         Form::End(t) => step_end(tasks, promises, report, t),
-        Form::Bad(_) => Answer::Refused(14),
+        Form::Bad(column) => bad_at(column),
     }
 }
 
@@ -85,11 +95,11 @@ fn open_session(t: u16, p: u16, tasks: &mut [u16], promises: &mut [u16]) -> Done
 }
 
 // A refusal before a session is opened.
-fn refused_unopened(number: u16) -> Done
-    ensures { λ r. ⌜ (r .answer ≡ Answer.Refused number) × (r .session ≡ Session.Unopened) ⌝ }
+fn refused_unopened(answer: Answer) -> Done
+    ensures { λ r. ⌜ (r .answer ≡ answer) × (r .session ≡ Session.Unopened) ⌝ }
 {
     Done {
-        answer: Answer::Refused(number),
+        answer,
         session: Session::Unopened,
     }
 }
@@ -101,12 +111,12 @@ fn unopened(form: Form, tasks: &mut [u16], promises: &mut [u16]) -> Done
 {
     match form {
         Form::Open(t, p) => open_session(t, p, tasks, promises),
-        Form::New(_, _) => refused_unopened(15),
-        Form::Set(_, _) => refused_unopened(15),
-        Form::Get(_, _) => refused_unopened(15),
-        Form::Async(_, _, _) => refused_unopened(15),
-        Form::End(_) => refused_unopened(15),
-        Form::Bad(_) => refused_unopened(14),
+        Form::New(_, _) => refused_unopened(Answer::Refused(15)),
+        Form::Set(_, _) => refused_unopened(Answer::Refused(15)),
+        Form::Get(_, _) => refused_unopened(Answer::Refused(15)),
+        Form::Async(_, _, _) => refused_unopened(Answer::Refused(15)),
+        Form::End(_) => refused_unopened(Answer::Refused(15)),
+        Form::Bad(column) => refused_unopened(bad_at(column)),
     }
 }
 

@@ -1,11 +1,15 @@
 -- `forms::judge` meets its contract: a line that is too long is bad at its limit, and any other goes by its record.
 -- Assumes nothing.
 use mathlib.Core.Path.{refl, sym, _∙_}
+use native.Mathlib.Omega.{arith}
 use Rattle.forms.specs.Judging.{ofRecord, entriesIn}
-use Rattle.forms.proofs.JudgingLaws.{judged-long, judged-list, judged-plain}
+use Rattle.forms.proofs.JudgingLaws.{judged-long, judged-list, judged-plain, record-in-line, list-in-line}
 use borrow.Author.Needs.{needs}
 use Rattle.forms.proofs.judge.Statement.{statement}
 use Rattle.forms.proofs.judge.Tie as tie
+
+cast-t18 : tie.Need-cast-t18
+cast-t18 c = search needs
 
 returns : tie.Need-returns
 returns c = judged-long _ _ (c .if1 .taken)
@@ -29,13 +33,20 @@ enum-known-t-4 : tie.Need-enum-known-t-4
 enum-known-t-4 c = search needs
 
 with-list-requires : tie.Need-with-list-requires
-with-list-requires c κs = search needs
+with-list-requires c κs = list-in-line _ _ _ _ (c .before .before .before .before .before .if1 .left) (sym (c .before .before .before .before .record-of .ensures) ∙ c .before .before .t4 .given .1)
 
 enum-known-t-5 : tie.Need-enum-known-t-5
 enum-known-t-5 c = search needs
 
 enum-known-c : tie.Need-enum-known-c
 enum-known-c c = search needs
+
+-- the column is one of the line
+cast-t23 : tie.Need-cast-t23
+unfolding ofRecord
+cast-t23 c =
+    let h = record-in-line _ _ (c .before .before .before .before .if1 .left) (sym (c .before .before .before .record-of .ensures) ∙ c .before .c .given .1) _ refl in
+    omega arith
 
 returns-2 : tie.Need-returns-2
 unfolding ofRecord entriesIn
@@ -74,6 +85,7 @@ pub judge-spec : {M : Type 1} → statement M
 judge-spec =
     tie.close
     (tie.spec
+    cast-t18
     returns
     record-of-requires
     enum-known-a
@@ -84,6 +96,7 @@ judge-spec =
     with-list-requires
     enum-known-t-5
     enum-known-c
+    cast-t23
     returns-2
     returns-3
     returns-4

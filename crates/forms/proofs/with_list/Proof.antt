@@ -1,7 +1,8 @@
 -- `forms::with_list` meets its contract: the list behind the child is read, and its answer is that of `withList`.
 -- Assumes nothing.
 use mathlib.Core.Path.{sym, _∙_}
-use Rattle.forms.proofs.JudgingLaws.{withList-all, withList-bad, list-within}
+use native.Mathlib.Omega.{arith}
+use Rattle.forms.proofs.JudgingLaws.{withList-all, withList-bad}
 use borrow.Author.Needs.{needs}
 use Rattle.forms.proofs.with_list.Statement.{statement}
 use Rattle.forms.proofs.with_list.Tie as tie
@@ -15,11 +16,16 @@ enum-known-n c = search needs
 enum-known-j : tie.Need-enum-known-j
 enum-known-j c = search needs
 
+-- the column is one of the line
 add-t12 : tie.Need-add-t12
 add-t12 c =
-    let a = c .before .before .before .before .before .before .before .before .before .args in
-    let h = list-within (a .line .now) (a .at) _ (sym (c .before .before .before .before .before .list-after .ensures .answer) ∙ c .before .j .given .1) in
-    search needs
+    let h = c .before .before .before .before .before .before .before .before .before .pre _ (sym (withList-bad _ _ _ _ _ (sym (c .before .before .before .before .before .list-after .ensures .answer) ∙ c .before .j .given .1))) in
+    omega arith
+
+cast-t13 : tie.Need-cast-t13
+cast-t13 c =
+    let h = c .before .before .before .before .before .before .before .before .before .pre _ (sym (withList-bad _ _ _ _ _ (sym (c .before .before .before .before .before .list-after .ensures .answer) ∙ c .before .j .given .1))) in
+    omega arith
 
 same-length : tie.Need-same-length
 same-length c = search needs
@@ -41,6 +47,7 @@ with-list-spec =
     enum-known-n
     enum-known-j
     add-t12
+    cast-t13
     same-length
     returns
     same-length-2

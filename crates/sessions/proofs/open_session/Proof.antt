@@ -1,5 +1,6 @@
 use mathlib.Core.Path.{refl, sym, _∙_}
 use native.Mathlib.Nat.{sub-zero}
+use Rattle.rules.specs.declared.Answer.the-variants.{Refused}
 use Rattle.sessions.specs.declared.Session.the-variants.{Unopened}
 use Rattle.sessions.proofs.SessionLaws.{freshRefusal-none, does-refused, does-opened, openDeed-refused}
 use native.Mathlib.Omega.{arith}
@@ -18,7 +19,7 @@ fresh-refusal-requires c κs = search needs
 
 -- src/lib.rt:88:9
 returns : tie.Need-returns
-returns c = let a = c .before .before .before .before .args in does-refused (a .tasks .now) (a .promises .now) Unopened (c .before .fresh-refusal .result) (openDeed-refused (a .tasks .now) (a .promises .now) (a .t) (a .p) _ (c .before .fresh-refusal .ensures) (c .if1 .taken)) refl refl
+returns c = let a = c .before .before .before .before .args in does-refused (a .tasks .now) (a .promises .now) Unopened (Refused (c .before .fresh-refusal .result)) (openDeed-refused (a .tasks .now) (a .promises .now) (a .t) (a .p) _ (c .before .fresh-refusal .ensures) (c .if1 .taken)) refl refl
 
 -- src/lib.rt:93:11
 sub-fresh : tie.Need-sub-fresh

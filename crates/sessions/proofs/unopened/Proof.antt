@@ -1,5 +1,7 @@
+use mathlib.Core.Path.{_∙_}
+use Rattle.rules.specs.declared.Answer.the-variants.{Refused}
 use Rattle.sessions.specs.declared.Session.the-variants.{Unopened}
-use Rattle.sessions.specs.Sessions.{unopenedDeed}
+use Rattle.sessions.specs.Sessions.{badAt, unopenedDeed}
 use Rattle.sessions.proofs.SessionLaws.{does-refused}
 use native.Mathlib.Omega.{arith}
 use Rattle.words.proofs.Tests.{tests}
@@ -11,104 +13,84 @@ use Rattle.sessions.proofs.unopened.Lts as lts
 use Rattle.sessions.proofs.open_session.Reads as open-session-reads
 use Rattle.sessions.proofs.refused_unopened.Reads as refused-unopened-reads
 
--- src/lib.rt:116:20
 enum-known-form : tie.Need-enum-known-form
 enum-known-form c = search needs
 
--- src/lib.rt:116:29
 open-session-requires : tie.Need-open-session-requires
 open-session-requires c κs = search needs
 
--- src/lib.rt:117:28
 enum-told : tie.Need-enum-told
 enum-told c = search needs
 
--- src/lib.rt:117:28
 refused-unopened-requires : tie.Need-refused-unopened-requires
 refused-unopened-requires c κs = search needs
 
--- src/lib.rt:118:28
 enum-told-2 : tie.Need-enum-told-2
 enum-told-2 c = search needs
 
--- src/lib.rt:118:28
 refused-unopened-requires-2 : tie.Need-refused-unopened-requires-2
 refused-unopened-requires-2 c κs = search needs
 
--- src/lib.rt:119:28
 enum-told-3 : tie.Need-enum-told-3
 enum-told-3 c = search needs
 
--- src/lib.rt:119:28
 refused-unopened-requires-3 : tie.Need-refused-unopened-requires-3
 refused-unopened-requires-3 c κs = search needs
 
--- src/lib.rt:120:33
 enum-told-4 : tie.Need-enum-told-4
 enum-told-4 c = search needs
 
--- src/lib.rt:120:33
 refused-unopened-requires-4 : tie.Need-refused-unopened-requires-4
 refused-unopened-requires-4 c κs = search needs
 
--- src/lib.rt:121:25
 enum-told-5 : tie.Need-enum-told-5
 enum-told-5 c = search needs
 
--- src/lib.rt:121:25
 refused-unopened-requires-5 : tie.Need-refused-unopened-requires-5
 refused-unopened-requires-5 c κs = search needs
 
--- src/lib.rt:122:25
-enum-told-6 : tie.Need-enum-told-6
-enum-told-6 c = search needs
+enum-known-form-2 : tie.Need-enum-known-form-2
+enum-known-form-2 c = search needs
 
--- src/lib.rt:122:25
+bad-at-requires : tie.Need-bad-at-requires
+bad-at-requires c κs = search needs
+
 refused-unopened-requires-6 : tie.Need-refused-unopened-requires-6
 refused-unopened-requires-6 c κs = search needs
 
--- src/lib.rt:111:1
 same-length : tie.Need-same-length
 same-length c = search needs
 
--- src/lib.rt:111:1
 same-length-2 : tie.Need-same-length-2
 same-length-2 c = search needs
 
--- src/lib.rt:111:1
 returns : tie.Need-returns
 unfolding unopenedDeed
 returns c = rw (c .before .before .before .before .before .before .before .before .form .given .1) (c .before .before .before .before .open-session .ensures)
 
--- src/lib.rt:111:1
 returns-2 : tie.Need-returns-2
 unfolding unopenedDeed
-returns-2 c = let a = c .before .before .before .before .before .args in does-refused (a .tasks .now) (a .promises .now) Unopened 15 (rw (c .before .enum-told .given .1)) (c .refused-unopened .ensures .0) (c .refused-unopened .ensures .1)
+returns-2 c = let a = c .before .before .before .before .before .args in does-refused (a .tasks .now) (a .promises .now) Unopened (Refused 15) (rw (c .before .enum-told .given .1)) (c .refused-unopened .ensures .0) (c .refused-unopened .ensures .1)
 
--- src/lib.rt:111:1
 returns-3 : tie.Need-returns-3
 unfolding unopenedDeed
-returns-3 c = let a = c .before .before .before .before .before .args in does-refused (a .tasks .now) (a .promises .now) Unopened 15 (rw (c .before .enum-told2 .given .1)) (c .refused-unopened2 .ensures .0) (c .refused-unopened2 .ensures .1)
+returns-3 c = let a = c .before .before .before .before .before .args in does-refused (a .tasks .now) (a .promises .now) Unopened (Refused 15) (rw (c .before .enum-told2 .given .1)) (c .refused-unopened2 .ensures .0) (c .refused-unopened2 .ensures .1)
 
--- src/lib.rt:111:1
 returns-4 : tie.Need-returns-4
 unfolding unopenedDeed
-returns-4 c = let a = c .before .before .before .before .before .args in does-refused (a .tasks .now) (a .promises .now) Unopened 15 (rw (c .before .enum-told3 .given .1)) (c .refused-unopened3 .ensures .0) (c .refused-unopened3 .ensures .1)
+returns-4 c = let a = c .before .before .before .before .before .args in does-refused (a .tasks .now) (a .promises .now) Unopened (Refused 15) (rw (c .before .enum-told3 .given .1)) (c .refused-unopened3 .ensures .0) (c .refused-unopened3 .ensures .1)
 
--- src/lib.rt:111:1
 returns-5 : tie.Need-returns-5
 unfolding unopenedDeed
-returns-5 c = let a = c .before .before .before .before .before .args in does-refused (a .tasks .now) (a .promises .now) Unopened 15 (rw (c .before .enum-told4 .given .1)) (c .refused-unopened4 .ensures .0) (c .refused-unopened4 .ensures .1)
+returns-5 c = let a = c .before .before .before .before .before .args in does-refused (a .tasks .now) (a .promises .now) Unopened (Refused 15) (rw (c .before .enum-told4 .given .1)) (c .refused-unopened4 .ensures .0) (c .refused-unopened4 .ensures .1)
 
--- src/lib.rt:111:1
 returns-6 : tie.Need-returns-6
 unfolding unopenedDeed
-returns-6 c = let a = c .before .before .before .before .before .args in does-refused (a .tasks .now) (a .promises .now) Unopened 15 (rw (c .before .enum-told5 .given .1)) (c .refused-unopened5 .ensures .0) (c .refused-unopened5 .ensures .1)
+returns-6 c = let a = c .before .before .before .before .before .args in does-refused (a .tasks .now) (a .promises .now) Unopened (Refused 15) (rw (c .before .enum-told5 .given .1)) (c .refused-unopened5 .ensures .0) (c .refused-unopened5 .ensures .1)
 
--- src/lib.rt:111:1
 returns-7 : tie.Need-returns-7
 unfolding unopenedDeed
-returns-7 c = let a = c .before .before .before .before .before .args in does-refused (a .tasks .now) (a .promises .now) Unopened 14 (rw (c .before .enum-told6 .given .1)) (c .refused-unopened6 .ensures .0) (c .refused-unopened6 .ensures .1)
+returns-7 c = let a = c .before .before .before .before .before .before .before .args in does-refused (a .tasks .now) (a .promises .now) Unopened (badAt _) (rw (c .before .before .before .form2 .given .1)) (c .refused-unopened6 .ensures .0 ∙ c .before .bad-at .ensures) (c .refused-unopened6 .ensures .1)
 
 pub unopened-spec : {M : Type 1} → statement M
 unopened-spec =
@@ -126,7 +108,8 @@ unopened-spec =
     refused-unopened-requires-4
     enum-told-5
     refused-unopened-requires-5
-    enum-told-6
+    enum-known-form-2
+    bad-at-requires
     refused-unopened-requires-6
     same-length
     same-length-2
