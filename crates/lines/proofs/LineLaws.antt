@@ -17,17 +17,18 @@ use Rattle.rules.specs.Sessions.{freshRefusal}
 use Rattle.rules.specs.Refusals.{first}
 use Rattle.rules.specs.Steps.{step-new, step-set, step-get, step-async, step-end}
 use Rattle.rules.specs.declared.Answer.{Answer}
+use Rattle.rules.specs.declared.Answer.the-variants.{Refused}
 use Rattle.forms.specs.declared.Form.{Form as LineForm}
 use Rattle.forms.specs.declared.Form.the-variants as F
-use Rattle.forms.specs.Judging.{countIn, formOf, entriesOf, Judged}
+use Rattle.forms.specs.Judging.{countIn, formOf, entriesOf, InLine, Judged}
 use Rattle.forms.specs.Forms.{longestLine}
 use Rattle.forms.proofs.JudgingLaws.{formOf-long, entriesOf-long}
-use Rattle.forms.proofs.Theorems.{form-counts, entries-most, judged-whole}
+use Rattle.forms.proofs.Theorems.{form-counts, entries-most, judged-whole, column-in-line}
 use Rattle.buffers.specs.Buffers.{fitting, Wrote}
 use Rattle.words.proofs.ListLaws.{over-length}
 use Rattle.buffers.proofs.BufferLaws.{fitting-most, wrote-room}
 use Rattle.answers.specs.AnswerText.{answerText, longestAnswer}
-use Rattle.answers.proofs.Fits.{refused-fits, opened-fits, step-answer-fits}
+use Rattle.answers.proofs.Fits.{refused-fits, placed-fits, opened-fits, step-answer-fits}
 use Rattle.sessions.specs.declared.Session.{Session}
 use Rattle.sessions.specs.declared.Session.the-variants.{Unopened, Open}
 use Rattle.sessions.specs.declared.Done.{Done}
@@ -90,10 +91,6 @@ deed-read s o x f session ts ps n j h =
 
 -- ---- every answer fits
 
-deed-fits-refused : (n r : ℕ) (session : Session) (ts ps rs : List ℕ) → n ≤ 999999 → r < 1000
-    → length (answerText n (refusedBy r session ts ps .answer) (over (refusedBy r session ts ps .words) rs)) ≤ longestAnswer
-deed-fits-refused n r session ts ps rs h k = refused-fits n r (over [] rs) h k
-
 fresh-small : (T P : ℕ) → freshRefusal small T P < 1000
 unfolding freshRefusal first
 fresh-small T P = go (sizesInBounds small T P)
@@ -102,27 +99,31 @@ fresh-small T P = go (sizesInBounds small T P)
     go true = omega arith
     go false = omega arith
 
-pub deed-fits : (f : LineForm) (vs : List ℕ) (session : Session) (ts ps rs : List ℕ) (m n : ℕ) → n ≤ 999999
+deed-fits : (f : LineForm) (vs : List ℕ) (session : Session) (ts ps rs : List ℕ) (m n : ℕ) → n ≤ 999999 → InLine f
     → length (answerText n (deedOf f vs session ts ps m .answer) (over (deedOf f vs session ts ps m .words) rs)) ≤ longestAnswer
 unfolding deedOf unopenedDeed openDeed openOutcome
-deed-fits (F.Open T P) vs Unopened ts ps rs m n h = go (eqb (freshRefusal small T P) 0)
+deed-fits (F.Open T P) vs Unopened ts ps rs m n h l = go (eqb (freshRefusal small T P) 0)
   where
-    go : (b : Bool) → length (answerText n (cond b (opened T P ts ps) (refusedBy (freshRefusal small T P) Unopened ts ps) .answer) (over (cond b (opened T P ts ps) (refusedBy (freshRefusal small T P) Unopened ts ps) .words) rs)) ≤ longestAnswer
+    go : (b : Bool) → length (answerText n (cond b (opened T P ts ps) (refusedBy (Refused (freshRefusal small T P)) Unopened ts ps) .answer) (over (cond b (opened T P ts ps) (refusedBy (Refused (freshRefusal small T P)) Unopened ts ps) .words) rs)) ≤ longestAnswer
     go true = opened-fits n (over [] rs) h
     go false = refused-fits n (freshRefusal small T P) (over [] rs) h (fresh-small T P)
-deed-fits (F.New t p) vs Unopened ts ps rs m n h = refused-fits n 15 (over [] rs) h (omega arith)
-deed-fits (F.Set t p) vs Unopened ts ps rs m n h = refused-fits n 15 (over [] rs) h (omega arith)
-deed-fits (F.Get t p) vs Unopened ts ps rs m n h = refused-fits n 15 (over [] rs) h (omega arith)
-deed-fits (F.Async t c k) vs Unopened ts ps rs m n h = refused-fits n 15 (over [] rs) h (omega arith)
-deed-fits (F.End t) vs Unopened ts ps rs m n h = refused-fits n 15 (over [] rs) h (omega arith)
-deed-fits (F.Bad c) vs Unopened ts ps rs m n h = refused-fits n 14 (over [] rs) h (omega arith)
-deed-fits (F.Open T′ P′) vs (Open T P) ts ps rs m n h = refused-fits n 15 (over [] rs) h (omega arith)
-deed-fits (F.New t p) vs (Open T P) ts ps rs m n h = step-answer-fits n m (tables (take T ts) (take P ps)) (step-new t p) rs h
-deed-fits (F.Set t p) vs (Open T P) ts ps rs m n h = step-answer-fits n m (tables (take T ts) (take P ps)) (step-set t p) rs h
-deed-fits (F.Get t p) vs (Open T P) ts ps rs m n h = step-answer-fits n m (tables (take T ts) (take P ps)) (step-get t p) rs h
-deed-fits (F.Async t c k) vs (Open T P) ts ps rs m n h = step-answer-fits n m (tables (take T ts) (take P ps)) (step-async t c vs) rs h
-deed-fits (F.End t) vs (Open T P) ts ps rs m n h = step-answer-fits n m (tables (take T ts) (take P ps)) (step-end t) rs h
-deed-fits (F.Bad c) vs (Open T P) ts ps rs m n h = refused-fits n 14 (over [] rs) h (omega arith)
+deed-fits (F.New t p) vs Unopened ts ps rs m n h l = refused-fits n 15 (over [] rs) h (omega arith)
+deed-fits (F.Set t p) vs Unopened ts ps rs m n h l = refused-fits n 15 (over [] rs) h (omega arith)
+deed-fits (F.Get t p) vs Unopened ts ps rs m n h l = refused-fits n 15 (over [] rs) h (omega arith)
+deed-fits (F.Async t c k) vs Unopened ts ps rs m n h l = refused-fits n 15 (over [] rs) h (omega arith)
+deed-fits (F.End t) vs Unopened ts ps rs m n h l = refused-fits n 15 (over [] rs) h (omega arith)
+deed-fits (F.Bad c) vs Unopened ts ps rs m n h l = placed-fits n 14 c (over [] rs) h (omega arith) (omega (arith, l c refl))
+deed-fits (F.Open T′ P′) vs (Open T P) ts ps rs m n h l = refused-fits n 15 (over [] rs) h (omega arith)
+deed-fits (F.New t p) vs (Open T P) ts ps rs m n h l = step-answer-fits n m (tables (take T ts) (take P ps)) (step-new t p) rs h
+deed-fits (F.Set t p) vs (Open T P) ts ps rs m n h l = step-answer-fits n m (tables (take T ts) (take P ps)) (step-set t p) rs h
+deed-fits (F.Get t p) vs (Open T P) ts ps rs m n h l = step-answer-fits n m (tables (take T ts) (take P ps)) (step-get t p) rs h
+deed-fits (F.Async t c k) vs (Open T P) ts ps rs m n h l = step-answer-fits n m (tables (take T ts) (take P ps)) (step-async t c vs) rs h
+deed-fits (F.End t) vs (Open T P) ts ps rs m n h l = step-answer-fits n m (tables (take T ts) (take P ps)) (step-end t) rs h
+deed-fits (F.Bad c) vs (Open T P) ts ps rs m n h l = placed-fits n 14 c (over [] rs) h (omega arith) (omega (arith, l c refl))
+
+pub line-fits : (line : List ℕ) (session : Session) (ts ps rs : List ℕ) (n : ℕ) → n ≤ 999999
+    → let d = deedOf (formOf line) (entriesOf line) session ts ps (length rs) in length (answerText n (d .answer) (over (d .words) rs)) ≤ longestAnswer
+line-fits line session ts ps rs n h = deed-fits (formOf line) (entriesOf line) session ts ps rs (length rs) n h (column-in-line line)
 
 -- EVERY ANSWER LINE FITS INTO WHAT WAS LENT FOR IT
 pub entry-within : (line : List ℕ) (n : ℕ) (session : Session) (ts ps rs out : List ℕ) → entryOf line n session ts ps rs out .bytes ≤ length out
@@ -135,7 +136,7 @@ entry-within line n session ts ps rs out = go (lentWell n session (length ts) (l
     go : (b : Bool) → lentWell n session (length ts) (length ps) (length rs) (length out) ≡ b → cond b (entered n rs out d) (notEntered session ts ps rs out) .bytes ≤ length out
     go true e =
         let w = lentWell-true n session (length ts) (length ps) (length rs) (length out) e in
-        omega (arith, deed-fits (formOf line) (entriesOf line) session ts ps rs (length rs) n (w .most), w .room)
+        omega (arith, line-fits line session ts ps rs n (w .most), w .room)
     go false e = omega arith
 
 -- what was done and what was written make the entry

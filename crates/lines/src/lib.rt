@@ -44,7 +44,7 @@ fn judge_held(line: &[u8], have: usize, list: &mut [u16]) -> Form
     ensures { λ r. ⌜ Judged (heldLine (now (line .entry)) have) (now (list .entry)) (now (list .exit)) r ⌝ }
 {
     if line.len() < have {
-        return Form::Bad(Form::LONGEST);
+        return Form::Bad(Form::LONGEST as u16);
     }
     judge(&line[0..have], list)
 }

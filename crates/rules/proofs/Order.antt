@@ -11,12 +11,13 @@ use lib.Dec.{eqb, leb, ltb}
 use borrow.Author.Tests.{eqb-true, eqb-false, eq-eqb, ne-eqb, lt-ltb, ltb-true}
 use lib.ListN.{length}
 use Rattle.words.specs.Words.{Form, setWord, firstOwned}
+use Rattle.words.specs.Lists.{In, top, pop}
 use Rattle.words.proofs.BoolLaws.{true-is-not-false, clash}
 use Rattle.rules.specs.Tables.{Tables, promiseAt}
 use Rattle.rules.specs.Answers.{numberOf, valuesOf}
 use Rattle.rules.specs.Refusals.{Row, first, earlier, tableRows, entryRows, entryRefusal, firstBad}
 use Rattle.rules.specs.Steps.{Step, step-new, step-set, step-get, step-async, step-end, Outcome, outcome, Found, astray, back, free, walk, pairs, withWait, followed, got, guarded, started, withStarted, rows, effect, raw, step}
-use Rattle.rules.specs.Demands.{numbers, paperRows, FirstGiven, now, later, NoneGiven, no-row, not-this, BadPlace, Refusal, plain, placed}
+use Rattle.rules.specs.Demands.{numbers, paperRows, paperEntryRows, paperNumbers, FirstGiven, now, later, NoneGiven, no-row, not-this, BadPlace, Refusal, plain, placed}
 use Rattle.rules.specs.declared.Answer.{Answer}
 use Rattle.rules.specs.declared.Answer.the-variants.{Opened, Made, Set, Value, Blamed, Waits, Cycle, Started, Ended, Refused, RefusedAt}
 use Rattle.rules.proofs.PlaceLaws.{firstBad-place}
@@ -153,6 +154,14 @@ guarded-plain g s o h r e = go (ℕ-discrete g 0)
     go (yes z) = absurd (h r (sym (ap (λ (x : Outcome). x .answer) (guarded-none g s o z)) ∙ e))
     go (no n) = let k : Refused g ≡ Refused r = sym (ap (λ (x : Outcome). x .answer) (guarded-some g s o n)) ∙ e in (cc, n)
 
+-- a guard refuses for no entry
+guarded-placed : (s : Tables) (g : ℕ) (o : Outcome) (r i : ℕ) → guarded g s o .answer ≡ RefusedAt r i → (g ≡ 0) × (o .answer ≡ RefusedAt r i)
+guarded-placed s g o r i e = go (ℕ-discrete g 0)
+  where
+    go : Dec (g ≡ 0) → (g ≡ 0) × (o .answer ≡ RefusedAt r i)
+    go (yes z) = (z, sym (ap (λ (x : Outcome). x .answer) (guarded-none g s o z)) ∙ e)
+    go (no m) = let k : Refused g ≡ RefusedAt r i = sym (ap (λ (x : Outcome). x .answer) (guarded-some g s o m)) ∙ e in clash cc
+
 pub refused-first : (F : Form) (n : ℕ) (s : Tables) (x : Step) (r : ℕ) → step F n s x .answer ≡ Refused r → FirstGiven r (tableRows F n s ++ rows F s x)
 refused-first F n s x r e =
     let (a, b) = guarded-plain (first (tableRows F n s ++ rows F s x)) s (effect F s x) (effect-not-plain F s x) r (sym (ap (λ (o : Outcome). o .answer) (step-guarded F n s x)) ∙ e) in
@@ -205,13 +214,6 @@ module _ (F : Form) (n : ℕ) (s : Tables) (t c : ℕ) (list : List ℕ) where
       go true h z = (ltb-true bad (length list) h, cc, cc)
       go false h z = clash cc
 
-  guarded-placed : (g : ℕ) (o : Outcome) (r i : ℕ) → guarded g s o .answer ≡ RefusedAt r i → (g ≡ 0) × (o .answer ≡ RefusedAt r i)
-  guarded-placed g o r i e = go (ℕ-discrete g 0)
-    where
-      go : Dec (g ≡ 0) → (g ≡ 0) × (o .answer ≡ RefusedAt r i)
-      go (yes z) = (z, sym (ap (λ (x : Outcome). x .answer) (guarded-none g s o z)) ∙ e)
-      go (no m) = let k : Refused g ≡ RefusedAt r i = sym (ap (λ (x : Outcome). x .answer) (guarded-some g s o m)) ∙ e in clash cc
-
   all-numbered : Numbered (tableRows F n s ++ rows F s (step-async t c list))
   all-numbered = numbered-append (tableRows-numbered F n s) (rows-numbered F s (step-async t c list))
 
@@ -219,7 +221,7 @@ module _ (F : Form) (n : ℕ) (s : Tables) (t c : ℕ) (list : List ℕ) where
       → NoneGiven (tableRows F n s ++ rows F s (step-async t c list)) × BadPlace (F .base) (s .promises) t list r i
   unfolding entryRefusal
   placed-first r i e =
-      let (z, e₁) = guarded-placed _ (effect F s (step-async t c list)) r i (sym (ap (λ (o : Outcome). o .answer) (step-guarded F n s (step-async t c list))) ∙ e) in
+      let (z, e₁) = guarded-placed s _ (effect F s (step-async t c list)) r i (sym (ap (λ (o : Outcome). o .answer) (step-guarded F n s (step-async t c list))) ∙ e) in
       let (h, a, b) = started-placed r i e₁ in (
         first-none-given all-numbered z,
         record {
@@ -233,7 +235,7 @@ module _ (F : Form) (n : ℕ) (s : Tables) (t c : ℕ) (list : List ℕ) where
 
   pub placed-within : (r i : ℕ) → step F n s (step-async t c list) .answer ≡ RefusedAt r i → i ≤ length (s .promises)
   placed-within r i e =
-      let (z, e₁) = guarded-placed _ (effect F s (step-async t c list)) r i (sym (ap (λ (o : Outcome). o .answer) (step-guarded F n s (step-async t c list))) ∙ e) in
+      let (z, e₁) = guarded-placed s _ (effect F s (step-async t c list)) r i (sym (ap (λ (o : Outcome). o .answer) (step-guarded F n s (step-async t c list))) ∙ e) in
       let (h, a, b) = started-placed r i e₁ in
       subst (λ (k : ℕ). k ≤ length (s .promises)) b (firstBad-place (F .base) (s .promises) t list (length list))
 
@@ -321,3 +323,45 @@ number-refuses Started h = absurd (omega arith)
 number-refuses (Ended m k) h = absurd (omega arith)
 number-refuses (Refused r) h = plain r
 number-refuses (RefusedAt r i) h = placed r i
+
+-- ---- a step is refused by a number of its own
+
+given-in : {rows : List Row} {r : ℕ} → FirstGiven r rows → In r (numbers rows)
+given-in now = top
+given-in (later g) = pop (given-in g)
+
+in-left : {r : ℕ} {xs : List ℕ} (ys : List ℕ) → In r xs → In r (xs ++ ys)
+in-left ys top = top
+in-left ys (pop i) = pop (in-left ys i)
+
+in-right : {r : ℕ} (xs : List ℕ) {ys : List ℕ} → In r ys → In r (xs ++ ys)
+in-right [] i = i
+in-right (x ∷ xs) i = pop (in-right xs i)
+
+rows-among : {r : ℕ} (x : Step) → In r (paperRows x) → In r (paperNumbers x)
+rows-among (step-new t p) i = i
+rows-among (step-set t p) i = i
+rows-among (step-get t p) i = i
+rows-among (step-async t c list) i = in-left paperEntryRows i
+rows-among (step-end t) i = i
+
+effect-placed : (F : Form) (n : ℕ) (s : Tables) (x : Step) {r i : ℕ} → step F n s x .answer ≡ RefusedAt r i → effect F s x .answer ≡ RefusedAt r i
+effect-placed F n s x {r} {i} e = guarded-placed s _ (effect F s x) r i (sym (ap (λ (o : Outcome). o .answer) (step-guarded F n s x)) ∙ e) .1
+
+-- only an async is refused for an entry
+entries-among : (F : Form) (n : ℕ) (s : Tables) (x : Step) (r i : ℕ) → step F n s x .answer ≡ RefusedAt r i → In r (paperNumbers x)
+entries-among F n s (step-new t p) r i e = let z = effect-placed F n s (step-new t p) e in clash cc
+entries-among F n s (step-set t p) r i e = let z = effect-placed F n s (step-set t p) e in clash cc
+entries-among F n s (step-get t p) r i e =
+    got-cases (λ (o : Outcome). o .answer ≡ RefusedAt r i → In r (paperNumbers (step-get t p))) (F .base) s t p (promiseAt s p)
+    (λ z. clash cc) (λ b z. clash cc) (λ k z. clash cc) (λ k z. clash cc) (effect-placed F n s (step-get t p) e)
+entries-among F n s (step-async t c list) r i e = in-right (paperRows (step-async t c list)) (given-in (placed-first F n s t c list r i e .1 .given))
+entries-among F n s (step-end t) r i e = let z = effect-placed F n s (step-end t) e in clash cc
+
+pub own-number : (F : Form) (n : ℕ) (s : Tables) (x : Step) → Refusal (step F n s x .answer) → In (numberOf (step F n s x .answer)) (paperNumbers x)
+unfolding numberOf
+own-number F n s x w = go refl w
+  where
+    go : {a : Answer} → step F n s x .answer ≡ a → Refusal a → In (numberOf a) (paperNumbers x)
+    go e (plain r) = rows-among x (subst (In r) (papers-order F n s x) (given-in (refused-first F n s x r e)))
+    go e (placed r i) = entries-among F n s x r i e

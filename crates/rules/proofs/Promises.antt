@@ -16,7 +16,7 @@ use Rattle.rules.specs.Answers.{numberOf, valuesOf}
 use Rattle.rules.specs.Refusals.{tableRows, entryRows}
 use Rattle.rules.specs.Steps.{Step, step-new, step-set, step-get, step-async, step-end, Outcome, outcome, withWait, pairs, rows, step, run}
 use Rattle.rules.specs.ProvedSet.{provedSet, taken, expected}
-use Rattle.rules.specs.Demands.{Apart, Good, numbers, paperRows, paperEntryRows, FirstGiven, NoneGiven, BadPlace, Refusal, OwnersFrom, Alarm, Wait, Named, Woken, Demand3}
+use Rattle.rules.specs.Demands.{Apart, Good, numbers, paperRows, paperEntryRows, paperNumbers, FirstGiven, NoneGiven, BadPlace, Refusal, OwnersFrom, Alarm, Wait, Named, Woken, Demand3}
 use Rattle.rules.specs.Published.{NewRule, SetRule, SpawnRule, GetRule, EndRule, Asserted}
 use Rattle.rules.specs.Contracts.{Gives}
 use Rattle.rules.specs.Sessions.{Freshens}
@@ -90,6 +90,10 @@ module _ (F : Form) (n : ℕ) (s : Tables) where
 
   pub a-number-below-100-refuses : (x : Step) → numberOf (step F n s x .answer) < 100 → Refusal (step F n s x .answer)
   a-number-below-100-refuses x = order.number-refuses (step F n s x .answer)
+
+  -- and no step is refused by a number that the paper does not give it
+  pub refused-by-a-number-of-its-own : (x : Step) → Refusal (step F n s x .answer) → In (numberOf (step F n s x .answer)) (paperNumbers x)
+  refused-by-a-number-of-its-own = order.own-number F n s
 
   -- a place is at most P, however long the list is
   pub a-place-is-at-most-P : (t c : ℕ) (list : List ℕ) (r i : ℕ) → step F n s (step-async t c list) .answer ≡ RefusedAt r i → i ≤ length (s .promises)

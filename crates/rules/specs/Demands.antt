@@ -2,6 +2,7 @@
 --
 --   Apart F, Good F n s                 a form whose owned and blamed words do not meet; tables within their bounds, and sound
 --   numbers rows, paperRows x           the numbers of the rows; those of the paper's table
+--   paperNumbers x                      all numbers that a step may be refused by
 --   FirstGiven r rows                   r is the number of the first row that applies
 --   BadPlace B s t list i               i is the first bad place of an async list
 --   Refusal a                           the answer a is a refusal
@@ -50,6 +51,14 @@ paperRows (step-end t) = 1 ∷ 2 ∷ 3 ∷ 4 ∷ 5 ∷ []
 -- "each entry is tried for 6, 8, 9, 10, 13 in turn"
 abbrev pub paperEntryRows : List ℕ
 paperEntryRows = 6 ∷ 8 ∷ 9 ∷ 10 ∷ 13 ∷ []
+
+-- every number that a step may be refused by
+abbrev pub paperNumbers : Step → List ℕ
+paperNumbers (step-new t p) = paperRows (step-new t p)
+paperNumbers (step-set t p) = paperRows (step-set t p)
+paperNumbers (step-get t p) = paperRows (step-get t p)
+paperNumbers (step-async t c list) = paperRows (step-async t c list) ++ paperEntryRows
+paperNumbers (step-end t) = paperRows (step-end t)
 
 pub data FirstGiven (r : ℕ) : List Row → Type 0 where
   now : {rows : List Row} → FirstGiven r ((r, true) ∷ rows)

@@ -1,20 +1,24 @@
 -- What is promised of a line in a session. Assumes nothing.
 use Prim.Native.Nat.{ℕ}
-use mathlib.Core.Path.{_≡_, refl, ap, sym, _∙_}
-use mathlib.Core.List.{List, [], _++_}
-use mathlib.Core.Bool.{Bool, true, false, cond}
+use mathlib.Core.Path.{_≡_, refl, ap, sym, subst, _∙_}
+use mathlib.Core.List.{List, [], _∷_, _++_}
+use mathlib.Core.Bool.{Bool, true, false, cond, not, _&&_}
 use native.Mathlib.Omega.{arith}
 use lib.Dec.{eqb}
+use borrow.Author.Tests.{eq-eqb}
 use lib.ListN.{take, drop, take-append-drop}
-use Rattle.words.specs.Words.{small}
-use Rattle.words.proofs.BoolLaws.{clash}
+use Rattle.words.specs.Words.{small, sizesInBounds}
+use Rattle.words.specs.Lists.{In, top, pop}
+use Rattle.words.proofs.BoolLaws.{true-is-not-false, and-split, clash}
 use Rattle.rules.specs.Tables.{Tables, tables}
+use Rattle.rules.specs.Answers.{numberOf}
+use Rattle.rules.specs.Refusals.{first}
 use Rattle.rules.specs.Sessions.{freshRefusal}
 use Rattle.rules.specs.Steps.{Step, step-new, step-set, step-get, step-async, step-end, Outcome, outcome, step}
-use Rattle.rules.specs.Demands.{Refusal, plain, placed}
+use Rattle.rules.specs.Demands.{paperNumbers, Refusal, plain, placed}
 use Rattle.rules.specs.declared.Answer.{Answer}
 use Rattle.rules.specs.declared.Answer.the-variants.{Opened, Refused}
-use Rattle.rules.proofs.Promises.{a-refusal-changes-nothing}
+use Rattle.rules.proofs.Promises.{refused-by-a-number-of-its-own, a-number-below-100-refuses, a-refusal-changes-nothing}
 use Rattle.forms.specs.declared.Form.{Form}
 use Rattle.forms.specs.declared.Form.the-variants as F
 use Rattle.sessions.specs.declared.Session.{Session}
@@ -91,6 +95,64 @@ only-open-opens (F.Async t c k) vs Unopened ts ps n h = refl
 only-open-opens (F.End t) vs Unopened ts ps n h = refl
 only-open-opens (F.Bad c) vs Unopened ts ps n h = refl
 only-open-opens f vs (Open T P) ts ps n h = refl
+
+-- A LINE THAT GOES BAD ONLY GETS ITS COLUMN
+pub a-bad-line-only-gets-its-column : (column : ℕ) (vs : List ℕ) (session : Session) (ts ps : List ℕ) (n : ℕ) → deedOf (F.Bad column) vs session ts ps n ≡ refusedBy (badAt column) session ts ps
+unfolding deedOf unopenedDeed openOutcome
+a-bad-line-only-gets-its-column column vs Unopened ts ps n = refl
+a-bad-line-only-gets-its-column column vs (Open T P) ts ps n = rw (take-append-drop T ts, take-append-drop P ps)
+
+-- ---- 14 is the line's own number
+
+abbrev lacks : ℕ → List ℕ → Bool
+lacks r [] = true
+lacks r (q ∷ qs) = not (eqb r q) && lacks r qs
+
+lacks-in : (r : ℕ) {qs : List ℕ} → lacks r qs ≡ true → In r qs → ⊥
+lacks-in r e (top {xs = qs}) = true-is-not-false (sym (and-split (not (eqb r r)) (lacks r qs) e .0) ∙ ap not (eq-eqb r r refl))
+lacks-in r e (pop {y = q} {xs = qs} i) = lacks-in r (and-split (not (eqb r q)) (lacks r qs) e .1) i
+
+no-steps-own : (x : Step) → lacks 14 (paperNumbers x) ≡ true
+no-steps-own (step-new t p) = refl
+no-steps-own (step-set t p) = refl
+no-steps-own (step-get t p) = refl
+no-steps-own (step-async t c list) = refl
+no-steps-own (step-end t) = refl
+
+step-not-14 : {A : Type 0} (n : ℕ) (s : Tables) (x : Step) → numberOf (step small n s x .answer) ≡ 14 → A
+step-not-14 n s x e =
+    let i = refused-by-a-number-of-its-own small n s x (a-number-below-100-refuses small n s x (omega arith)) in
+    absurd (lacks-in 14 (no-steps-own x) (subst (λ (r : ℕ). In r (paperNumbers x)) e i))
+
+fresh-not-14 : {A : Type 0} (T P : ℕ) → freshRefusal small T P ≡ 14 → A
+unfolding freshRefusal first
+fresh-not-14 {A} T P = go (sizesInBounds small T P)
+  where
+    go : (b : Bool) → _≡_ {A = ℕ} (cond (not b) 1 0) 14 → A
+    go true e = absurd (omega arith)
+    go false e = absurd (omega arith)
+
+-- ONLY A LINE THAT GOES BAD IS REFUSED BY 14
+pub only-a-bad-line-gets-14 : (f : Form) (vs : List ℕ) (session : Session) (ts ps : List ℕ) (n : ℕ) → numberOf (deedOf f vs session ts ps n .answer) ≡ 14 → (column : ℕ) × (f ≡ F.Bad column)
+unfolding deedOf unopenedDeed openDeed openOutcome numberOf
+only-a-bad-line-gets-14 (F.Open T P) vs Unopened ts ps n e = go (eqb (freshRefusal small T P) 0) e
+  where
+    go : (b : Bool) → numberOf (cond b (opened T P ts ps) (refusedBy (Refused (freshRefusal small T P)) Unopened ts ps) .answer) ≡ 14 → (column : ℕ) × (F.Open T P ≡ F.Bad column)
+    go true e = absurd (omega arith)
+    go false e = fresh-not-14 T P e
+only-a-bad-line-gets-14 (F.New t p) vs Unopened ts ps n e = absurd (omega arith)
+only-a-bad-line-gets-14 (F.Set t p) vs Unopened ts ps n e = absurd (omega arith)
+only-a-bad-line-gets-14 (F.Get t p) vs Unopened ts ps n e = absurd (omega arith)
+only-a-bad-line-gets-14 (F.Async t c k) vs Unopened ts ps n e = absurd (omega arith)
+only-a-bad-line-gets-14 (F.End t) vs Unopened ts ps n e = absurd (omega arith)
+only-a-bad-line-gets-14 (F.Bad c) vs Unopened ts ps n e = (c, refl)
+only-a-bad-line-gets-14 (F.Open T′ P′) vs (Open T P) ts ps n e = absurd (omega arith)
+only-a-bad-line-gets-14 (F.New t p) vs (Open T P) ts ps n e = step-not-14 n (tables (take T ts) (take P ps)) (step-new t p) e
+only-a-bad-line-gets-14 (F.Set t p) vs (Open T P) ts ps n e = step-not-14 n (tables (take T ts) (take P ps)) (step-set t p) e
+only-a-bad-line-gets-14 (F.Get t p) vs (Open T P) ts ps n e = step-not-14 n (tables (take T ts) (take P ps)) (step-get t p) e
+only-a-bad-line-gets-14 (F.Async t c k) vs (Open T P) ts ps n e = step-not-14 n (tables (take T ts) (take P ps)) (step-async t c vs) e
+only-a-bad-line-gets-14 (F.End t) vs (Open T P) ts ps n e = step-not-14 n (tables (take T ts) (take P ps)) (step-end t) e
+only-a-bad-line-gets-14 (F.Bad c) vs (Open T P) ts ps n e = (c, refl)
 
 -- 01, "How much each contract must say": any two outcomes that the contract of `act` allows coincide
 pub act-unique : {d : Deed} {rs : List ℕ} {p q : Done} {ts ts′ ps ps′ rs₁ rs₂ : List ℕ} → Does d rs p ts ps rs₁ → Does d rs q ts′ ps′ rs₂

@@ -1,8 +1,7 @@
 use mathlib.Core.Path.{refl}
 use lib.ListN.{length}
 use Rattle.lines.specs.Lines.{heldLine}
-use Rattle.forms.specs.Judging.{formOf, entriesOf}
-use Rattle.lines.proofs.LineLaws.{lentWell-true, judged-count, deed-read, deed-fits, enters-of}
+use Rattle.lines.proofs.LineLaws.{lentWell-true, judged-count, deed-read, line-fits, enters-of}
 use native.Mathlib.Omega.{arith}
 use Rattle.words.proofs.Tests.{tests}
 use borrow.Author.Needs.{needs}
@@ -14,44 +13,35 @@ use Rattle.answers.proofs.put_answer.Reads as put-answer-reads
 use Rattle.lines.proofs.judge_held.Reads as judge-held-reads
 use Rattle.sessions.proofs.act.Reads as act-reads
 
--- src/lib.rt:196:9
 judge-held-requires : tie.Need-judge-held-requires
 judge-held-requires c κs = search needs
 
--- src/lib.rt:197:9
 act-requires : tie.Need-act-requires
 act-requires c κs = let w = lentWell-true _ _ _ _ _ _ (c .before .before .before .before .before .before .before .before .before .before .before .before .before .before .pre .0) in (judged-count _ _ _ _ (c .before .before .before .before .before .before .judge-held .ensures) (c .before .before .before .before .before .before .before .before .before .before .before .before .before .before .pre .1), w .session-is, w .tasks-are, w .promises-are)
 
--- src/lib.rt:200:9
 put-answer-requires : tie.Need-put-answer-requires
 put-answer-requires c κs = search needs
 
--- src/lib.rt:183:1
 same-length : tie.Need-same-length
 same-length c = search needs
 
--- src/lib.rt:183:1
 same-length-2 : tie.Need-same-length-2
 same-length-2 c = search needs
 
--- src/lib.rt:183:1
 same-length-3 : tie.Need-same-length-3
 same-length-3 c = search needs
 
--- src/lib.rt:183:1
 same-length-4 : tie.Need-same-length-4
 same-length-4 c = search needs
 
--- src/lib.rt:183:1
 same-length-5 : tie.Need-same-length-5
 same-length-5 c = search needs
 
--- src/lib.rt:183:1
 returns : tie.Need-returns
 returns c =
     let a = c .before .before .before .before .before .before .before .before .before .before .before .before .before .before .before .before .before .before .before .before .before .before .before .before .before .before .args in
     let w = lentWell-true _ _ _ _ _ _ (c .before .before .before .before .before .before .before .before .before .before .before .before .before .before .before .before .before .before .before .before .before .before .before .before .before .before .pre .0) in
-    let fit = deed-fits (formOf (heldLine (a .line .now) (a .have))) (entriesOf (heldLine (a .line .now) (a .have))) (a .session) (a .tasks .now) (a .promises .now) (a .report .now) (length (a .report .now)) (a .number) (w .most) in
+    let fit = line-fits (heldLine (a .line .now) (a .have)) (a .session) (a .tasks .now) (a .promises .now) (a .report .now) (a .number) (w .most) in
     enters-of (a .number) (a .report .now) (a .answer .now)
     (deed-read (heldLine (a .line .now) (a .have)) (a .list .now) _ _ (a .session) (a .tasks .now) (a .promises .now) (length (a .report .now)) (c .before .before .before .before .before .before .before .before .before .before .before .before .before .before .before .before .before .before .judge-held .ensures) (c .before .before .before .before .before .before .before .before .before .before .before .before .before .before .before .before .before .before .before .before .before .before .before .before .before .before .pre .1)) (c .before .before .before .before .before .before .before .before .before .before .before .act .ensures)
     (omega (arith, fit, w .room)) (c .before .before .put-answer .ensures) refl refl
