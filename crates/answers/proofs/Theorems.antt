@@ -3,20 +3,29 @@
 -- shows no word of an older report is `shown-words` there.
 -- Assumes nothing.
 use Prim.Native.Nat.{ℕ}
-use mathlib.Core.List.{List, _∷_}
+use mathlib.Core.List.{List, [], _∷_, _++_, append-nil}
 use mathlib.Core.Path.{_≡_, refl}
 use Rattle.buffers.specs.Buffers.{Wrote}
 use Rattle.buffers.proofs.Theorems.{wrote-unique}
+use Rattle.fields.specs.Fields.{tab, lineEnd}
+use Rattle.numbers.specs.Numbers.{dec}
+use Rattle.writers.specs.Texts.{fieldsText}
 use Rattle.rules.specs.declared.Answer.{Answer}
+use Rattle.rules.specs.declared.Answer.the-variants.{RefusedAt}
 use Rattle.rules.specs.Answers.{numberOf, valuesOf}
 use Rattle.rules.specs.Demands.{Refusal, plain, placed}
-use Rattle.answers.specs.AnswerText.{fieldsOf, answerText}
+use Rattle.answers.specs.AnswerText.{wordOf, fieldsOf, answerText}
 
 -- a refusal shows its number and its values, and nothing else
 pub refusal-shown : {a : Answer} (rs : List ℕ) → Refusal a → fieldsOf a rs ≡ numberOf a ∷ valuesOf a
 unfolding fieldsOf numberOf valuesOf
 refusal-shown rs (plain r) = refl
 refusal-shown rs (placed r i) = refl
+
+-- `refused r i`: the number of the line, the word and both numbers, with tabs between them and an LF at the end
+pub placed-text : (n r i : ℕ) (rs : List ℕ) → answerText n (RefusedAt r i) rs ≡ dec n ++ tab ∷ (wordOf (RefusedAt r i) ++ tab ∷ (dec r ++ tab ∷ dec i) ++ lineEnd ∷ [])
+unfolding answerText fieldsOf fieldsText
+placed-text n r i rs = rw (append-nil (tab ∷ dec i))
 
 pub put-answer-unique : (n : ℕ) (a : Answer) (rs : List ℕ) {o x y : List ℕ} {r q : ℕ} → Wrote (answerText n a rs) o x r → Wrote (answerText n a rs) o y q
     → (x ≡ y) × (r ≡ q)

@@ -1,20 +1,16 @@
 -- What is promised of the line entry. Assumes nothing.
 use Prim.Native.Nat.{ℕ}
 use mathlib.Core.Path.{_≡_, refl, sym, ap, _∙_}
-use mathlib.Core.List.{List, [], _∷_, _++_}
+use mathlib.Core.List.{List, []}
 use mathlib.Core.Bool.{Bool, true, false, cond}
 use lib.ListN.{length}
 use Rattle.words.specs.Lists.{over}
 use Rattle.words.proofs.ListLaws.{over-none}
 use Rattle.rules.specs.Answers.{numberOf}
 use Rattle.rules.specs.Demands.{Refusal}
-use Rattle.fields.specs.Fields.{tab, lineEnd}
-use Rattle.numbers.specs.Numbers.{dec}
-use Rattle.writers.specs.Texts.{fieldsText}
 use Rattle.forms.specs.Forms.{ColumnOf}
 use Rattle.forms.specs.Judging.{formOf, entriesOf}
 use Rattle.forms.proofs.Theorems.{bad-column, column-found}
-use Rattle.answers.specs.AnswerText.{wordOf, fieldsOf, answerText}
 use Rattle.sessions.specs.declared.Session.{Session}
 use Rattle.sessions.specs.Sessions.{Deed, badAt, refusedBy, deedOf}
 use Rattle.sessions.proofs.Theorems.{OnlyAnswers, a-refused-line-only-answers, a-bad-line-only-gets-its-column, only-a-bad-line-gets-14}
@@ -51,17 +47,12 @@ a-refused-line-only-gets-its-answer-line line n session ts ps rs out r = go (len
 
 -- ---- 02, request 1: "Say where a line went bad"
 
--- A BAD LINE IS TOLD ITS COLUMN, in whatever session, and is only told that
+-- A BAD LINE IS TOLD ITS COLUMN, in whatever session, and is only told that; `answers/Theorems` `placed-text` says how its answer line reads
 pub a-bad-line-is-told-its-column : (line : List ℕ) {c : ℕ} → ColumnOf line c → (n : ℕ) (session : Session) (ts ps rs out : List ℕ) → lentWell n session (length ts) (length ps) (length rs) (length out) ≡ true
     → entryOf line n session ts ps rs out ≡ entered n rs out (refusedBy (badAt c) session ts ps)
 unfolding entryOf
 a-bad-line-is-told-its-column line {c} k n session ts ps rs out w =
     rw (w, column-found line k, a-bad-line-only-gets-its-column c (entriesOf line) session ts ps (length rs))
-
--- "The answer line is `refused 14 column`.": after the line number, with tabs, and with its LF
-pub the-column-in-the-answer-line : (n c : ℕ) (rs : List ℕ) → answerText n (badAt c) rs ≡ dec n ++ tab ∷ (wordOf (badAt c) ++ fieldsText (14 ∷ c ∷ []) ++ lineEnd ∷ [])
-unfolding answerText fieldsOf
-the-column-in-the-answer-line n c rs = refl
 
 -- NO OTHER LINE IS ANSWERED BY 14
 pub only-a-bad-line-is-answered-by-14 : (line : List ℕ) (session : Session) (ts ps : List ℕ) (n : ℕ) → numberOf (deedOf (formOf line) (entriesOf line) session ts ps n .answer) ≡ 14 → (c : ℕ) × ColumnOf line c
