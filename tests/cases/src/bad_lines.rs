@@ -3,18 +3,24 @@
 use crate::random::Random;
 
 /// The fields that a reader may take wrongly for a number.
-const BAD_NUMBERS: [&[u8]; 22] = [
+const BAD_NUMBERS: [&[u8]; 28] = [
     b"",
     b"00",
     b"01",
     b"007",
+    b"0x",
     b"000000",
     b"65536",
     b"65537",
+    b"65540",
+    b"65600",
+    b"66000",
     b"70000",
     b"99999",
     b"100000",
     b"065535",
+    b"655350",
+    b"655360",
     b"131072",
     b"4294967296",
     b"18446744073709551616",
@@ -28,21 +34,36 @@ const BAD_NUMBERS: [&[u8]; 22] = [
     b"\xb2",
 ];
 
-/// The fields that a reader may take wrongly for the first word.
-const BAD_WORDS: [&[u8]; 16] = [
+/// The fields that a reader may take wrongly for the first word; many begin or end like one.
+const BAD_WORDS: [&[u8]; 31] = [
     b"",
     b"Open",
     b"NEW",
     b"Set",
+    b"sEt",
     b"gets",
+    b"gett",
     b"ge",
     b"asyn",
-    b"asyncs",
     b"async ",
+    b"asyncs",
+    b"asyncx",
+    b"sync",
     b"endd",
     b"en",
+    b"et",
+    b"e",
     b" end",
+    b"ope",
+    b"opne",
     b"opened",
+    b"o",
+    b"ne",
+    b"net",
+    b"newx",
+    b"se",
+    b"sew",
+    b"sett",
     b"full",
     b"\xef\xbb\xbfnew",
     b"new\0",
@@ -53,7 +74,7 @@ pub fn spoil_line(r: &mut Random, line: &[u8]) -> Vec<u8> {
     let mut fields: Vec<Vec<u8>> = line.split(|&byte| byte == b'\t').map(|field| field.to_vec()).collect();
     let place = r.below(fields.len());
     let number_place = if fields.len() > 1 { 1 + r.below(fields.len() - 1) } else { 0 };
-    match r.below(16) {
+    match r.below(21) {
         0 | 1 => fields[number_place] = r.pick(&BAD_NUMBERS).to_vec(),
         2 => fields[0] = r.pick(&BAD_WORDS).to_vec(),
         3 => fields.insert(place, Vec::new()),
@@ -67,6 +88,10 @@ pub fn spoil_line(r: &mut Random, line: &[u8]) -> Vec<u8> {
         9 => fields[number_place].insert(0, b'0'),
         10 => fields[0].make_ascii_uppercase(),
         11 => fields.push(b"\r".to_vec()),
+        12 => fields[number_place] = number_round_limit(r),
+        13 => fields[0].truncate(r.below(6)),
+        14 => return line[..r.below(line.len() + 1)].to_vec(),
+        15 => return [line, &[any_byte(r)]].concat(),
         _ => return change_bytes(r, line.to_vec()),
     }
     let mut spoiled = fields.join(&b'\t');
@@ -76,11 +101,27 @@ pub fn spoil_line(r: &mut Random, line: &[u8]) -> Vec<u8> {
     spoiled
 }
 
+/// A number about as large as the largest, or one with a few digits more.
+fn number_round_limit(r: &mut Random) -> Vec<u8> {
+    let number = if r.once_in(4) { 60_000 + r.below(40_000) } else { 65_525 + r.below(20) };
+    let more = ["", "", "0", "5", "00", "99999"];
+    format!("{number}{}", r.pick(&more)).into_bytes()
+}
+
+/// Any byte but LF, often one that stands in lines or beside those.
+fn any_byte(r: &mut Random) -> u8 {
+    let byte = if r.once_in(2) { r.pick(b"\t\t 0159\r\0/:+-aA") } else { r.bits() as u8 };
+    if byte == b'\n' {
+        b'\t'
+    } else {
+        byte
+    }
+}
+
 /// The line with a few bytes changed, put in or taken out; never an LF.
 fn change_bytes(r: &mut Random, mut line: Vec<u8>) -> Vec<u8> {
     for _ in 0..1 + r.below(2) {
-        let byte = if r.once_in(2) { r.pick(b"\t\t 0159\r\0/:+-aA") } else { r.bits() as u8 };
-        let byte = if byte == b'\n' { b'\t' } else { byte };
+        let byte = any_byte(r);
         let place = r.below(line.len() + 1);
         match r.below(4) {
             0 if place < line.len() => line[place] = byte,
@@ -90,29 +131,6 @@ fn change_bytes(r: &mut Random, mut line: Vec<u8>) -> Vec<u8> {
             2 => line = line.iter().map(|&b| if b == b'\t' { b' ' } else { b }).collect(),
             _ => line.insert(place, byte),
         }
-    }
-    line
-}
-
-/// A line of exactly `length` bytes: a well-formed async if the length allows it, and maybe spoiled.
-pub fn line_of_length(r: &mut Random, t: u16, c: u16, length: usize, good: bool) -> Vec<u8> {
-    let mut line = format!("async\t{t}\t{c}").into_bytes();
-    while line.len() < length {
-        let room = length - line.len();
-        // A tab and one to five digits, with never a single byte left over.
-        let digits = match room {
-            0..=6 => room - 1,
-            7 => 4,
-            _ => 1 + r.below(5),
-        };
-        line.push(b'\t');
-        for place in 0..digits {
-            line.push(if place == 0 && digits > 1 { b'1' + r.below(5) as u8 } else { b'0' + r.below(6) as u8 });
-        }
-    }
-    if !good {
-        let place = r.below(line.len());
-        line[place] = r.pick(b"\t x\0");
     }
     line
 }

@@ -2,8 +2,10 @@
 
 pub mod bad_lines;
 pub mod case;
+pub mod column_sweeps;
 pub mod damage;
 pub mod families;
+pub mod long_lines;
 pub mod model_subject;
 pub mod options;
 pub mod progress;

@@ -1,12 +1,13 @@
-//! Sweeps of traces: through every ring length, byte value, number and line length, and up to `full`.
+//! Sweeps of traces: through every ring length, byte value, number, line length and way to go bad, and up to `full`.
 
-use crate::bad_lines::line_of_length;
+use crate::column_sweeps::column_traces;
+use crate::long_lines::{line_of_length, Flaw};
 use crate::random::Random;
 use crate::trace_writer::TraceWriter;
 use crate::traces::chain_trace;
 use model::{Step, LINE_BYTES};
 
-/// Traces that go through every ring length, byte value, number and line length in order.
+/// Traces that go through every ring length, byte value, number, line length and way to go bad in order.
 pub fn sweep_traces() -> Vec<(&'static str, Vec<u8>)> {
     let mut r = Random::new(2);
     let mut traces = vec![("empty", vec![]), ("one LF", b"\n".to_vec()), ("one byte", b"x".to_vec())];
@@ -18,16 +19,17 @@ pub fn sweep_traces() -> Vec<(&'static str, Vec<u8>)> {
     traces.push(("every byte", every_byte()));
     traces.extend(every_number().map(|bytes| ("every number", bytes)));
     for length in (LINE_BYTES - 8..=LINE_BYTES + 8).chain([4095, 4096, 4097, 65535, 65536, 65537, 200_000]) {
-        for good in [true, false] {
+        for flaw in [Flaw::Nothing, Flaw::Anywhere] {
             let mut trace = TraceWriter::opened(3, 3);
-            trace.line(&line_of_length(&mut r, 0, 1, length, good));
+            trace.line(&line_of_length(&mut r, 0, 1, length, flaw));
             trace.blanks("new 0 0");
-            trace.line(&line_of_length(&mut r, 0, 1, length, good));
+            trace.line(&line_of_length(&mut r, 0, 1, length, flaw));
             traces.push(("every length", trace.bytes.clone()));
             trace.bytes.pop();
             traces.push(("every length, no LF", trace.bytes));
         }
     }
+    traces.extend(column_traces());
     traces
 }
 

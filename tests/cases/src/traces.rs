@@ -1,6 +1,7 @@
 //! Families of random traces for the program. A trace is known by its seed alone.
 
-use crate::bad_lines::{line_of_length, spoil_line};
+use crate::bad_lines::spoil_line;
+use crate::long_lines::{line_of_length, FLAWS, LEAST_LENGTH};
 use crate::random::Random;
 use crate::step_choice::{choose, wild, Taste};
 use crate::trace_writer::{step_line, TraceWriter};
@@ -8,10 +9,11 @@ use model::{Step, LINE_BYTES};
 
 type Family = (&'static str, fn(&mut Random) -> Vec<u8>);
 
-const FAMILIES: [Family; 10] = [
+const FAMILIES: [Family; 11] = [
     ("walk", walk),
     ("walk", walk),
     ("walk with bad lines", spoiled_walk),
+    ("bad lines", bad_lines),
     ("chain", random_chain),
     ("waiters", waiters),
     ("async lists", async_lists),
@@ -67,6 +69,20 @@ fn spoiled_walk(r: &mut Random) -> Vec<u8> {
         };
         let line = if r.once_in(3) { spoil_line(r, &line) } else { line };
         trace.line(&line);
+    }
+    trace.bytes
+}
+
+/// Bad lines one after another, before open or after it: each one a good line of any numbers, spoiled.
+fn bad_lines(r: &mut Random) -> Vec<u8> {
+    let mut trace = if r.once_in(4) { TraceWriter::unopened() } else { TraceWriter::opened(3, 200) };
+    for _ in 0..50 + r.below(100) {
+        let good = match r.below(6) {
+            0 => format!("open\t{}\t{}", r.number(64), r.number(256)).into_bytes(),
+            _ => step_line(&wild(r, 64, 256)),
+        };
+        let bad = spoil_line(r, &good);
+        trace.line(&bad);
     }
     trace.bytes
 }
@@ -181,14 +197,18 @@ fn limit_lines(r: &mut Random) -> Vec<u8> {
             6 => r.below(3 * LINE_BYTES),
             _ => r.pick(&[65534, 65535, 65536, 65537]),
         };
-        let good = !r.once_in(3);
         let line = match r.below(8) {
             0 => vec![b'\t'; length],
             1 => vec![r.bits() as u8 | 0x40; length],
-            _ => line_of_length(r, 0, 1, length.max(12), good),
+            _ => {
+                let flaw = r.pick(&FLAWS);
+                line_of_length(r, 0, 1, length.max(LEAST_LENGTH), flaw)
+            }
         };
+        if index > 0 {
+            trace.blanks("get 0 1");
+        }
         trace.line(&line);
-        trace.blanks("get 0 1");
     }
     trace.bytes
 }

@@ -1,6 +1,7 @@
 //! Answers to what has arrived are written before the next read blocks.
 
 use crate::program::{ended_well, Program};
+use model::LINE_BYTES;
 use std::io::{Read, Write};
 use std::process::{Child, ChildStdin, Stdio};
 use std::sync::mpsc::{self, Receiver, RecvTimeoutError};
@@ -92,6 +93,7 @@ pub fn check_all(program: &Program) -> Vec<(&'static str, Result<(), String>)> {
     vec![
         ("one line at a time", one_at_a_time(program)),
         ("lines with the start of the next", parts_of_lines(program)),
+        ("bad lines in two parts", parts_of_bad_lines(program)),
         ("full at the first byte of the millionth line", full(program)),
     ]
 }
@@ -105,16 +107,18 @@ fn one_at_a_time(program: &Program) -> Result<(), String> {
         ("async 0 1 1", "4 started"),
         ("get 1 0", "5 waits 1"),
         ("get 0 1", "6 cycle 2 0 1 1 0"),
-        ("", "7 refused 14"),
-        ("set 0 0", "8 set 1 1"),
-        ("end 1", "9 ended 1 1 0"),
+        ("", "7 refused 14 0"),
+        ("set 0 00", "8 refused 14 7"),
+        ("set 0", "9 refused 14 5"),
+        ("set 0 0", "10 set 1 1"),
+        ("end 1", "11 ended 1 1 0"),
     ] {
         held.write(format!("{}\n", line.replace(' ', "\t")).as_bytes())?;
         held.expect(&format!("{answer}\n"))?;
     }
     held.write(&[b'x'; 5000])?;
     held.write(b"\n")?;
-    held.expect("10 refused 14\n")?;
+    held.expect("12 refused 14 2048\n")?;
     held.close_input();
     held.expect_end()
 }
@@ -127,9 +131,41 @@ fn parts_of_lines(program: &Program) -> Result<(), String> {
     held.expect("1 opened\n2 made\n3 made\n")?;
     held.expect_silence()?;
     held.write(b"\t1\n\n\nget\t0\t1")?;
-    held.expect("4 set 0\n5 refused 14\n6 refused 14\n")?;
+    held.expect("4 set 0\n5 refused 14 0\n6 refused 14 0\n")?;
     held.close_input();
     held.expect("7 value\n")?;
+    held.expect_end()
+}
+
+/// An async line of this length that ends with a tab: only its end comes too early.
+fn unfinished(length: usize) -> Vec<u8> {
+    let mut line = if length.is_multiple_of(2) { b"async\t0\t1".to_vec() } else { b"async\t0\t10".to_vec() };
+    while line.len() < length - 1 {
+        line.extend_from_slice(b"\t1");
+    }
+    line.push(b'\t');
+    line
+}
+
+/// Lines that are bad already, or may still become good ones, get no answer before their end.
+fn parts_of_bad_lines(program: &Program) -> Result<(), String> {
+    let mut held = Held::start(program);
+    for (first, then, answer) in [
+        (b"newx".to_vec(), "\t0\t1\n", "1 refused 14 3\n"),
+        (b"new\t0\t6553".to_vec(), "6\n", "2 refused 14 10\n"),
+        (unfinished(LINE_BYTES - 1), "\n", "3 refused 14 2047\n"),
+        (unfinished(LINE_BYTES - 1), "\t\n", "4 refused 14 2047\n"),
+        (unfinished(LINE_BYTES), "\n", "5 refused 14 2048\n"),
+        (unfinished(LINE_BYTES), "1\n", "6 refused 14 2048\n"),
+        (vec![b'x'; LINE_BYTES], "\n", "7 refused 14 0\n"),
+        (vec![b'x'; LINE_BYTES], "x\n", "8 refused 14 2048\n"),
+    ] {
+        held.write(&first)?;
+        held.expect_silence()?;
+        held.write(then.as_bytes())?;
+        held.expect(answer)?;
+    }
+    held.close_input();
     held.expect_end()
 }
 
@@ -140,7 +176,7 @@ fn full(program: &Program) -> Result<(), String> {
     for start in (0..lines).step_by(block.len()) {
         let end = (start + block.len()).min(lines);
         held.write(&block[..end - start])?;
-        let answers: String = (start + 1..=end).map(|number| format!("{number} refused 14\n")).collect();
+        let answers: String = (start + 1..=end).map(|number| format!("{number} refused 14 0\n")).collect();
         held.expect(&answers)?;
     }
     held.expect_silence()?;

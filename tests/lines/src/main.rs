@@ -19,7 +19,7 @@ use cases::tally::Tally;
 use cases::trace_sweeps::{full_traces, sweep_traces};
 use cases::traces::random_trace;
 use feed::Feed;
-use model::Model;
+use model::{Model, LINE_BYTES};
 use program::Program;
 use std::process::exit;
 
@@ -33,6 +33,8 @@ const LARGE_TRACE: usize = 150_000;
 /// with sound tables from the start, refusal 2 is never among them.
 const ANSWERS: [&str; 10] = ["opened", "made", "set", "value", "blamed", "waits", "cycle", "started", "ended", "full"];
 const REFUSALS: [u16; 14] = [1, 3, 4, 5, 6, 7, 8, 9, 10, 11, 12, 13, 14, 15];
+/// The columns of refusal 14 that must be seen, by where they lie.
+const COLUMNS: [&str; 5] = ["column 0", "column to 15", "column to 255", "column to 2047", "column 2048"];
 
 struct Check {
     program: Program,
@@ -45,6 +47,7 @@ fn main() {
     let seed = number_after("--seed").unwrap_or(FIXED_SEED);
     let expected = ANSWERS.iter().map(|word| word.to_string());
     let expected = expected.chain(REFUSALS.iter().map(|number| format!("refused {number:02}")));
+    let expected = expected.chain(COLUMNS.iter().map(|name| name.to_string()));
     let mut check = Check { program: Program::from_environment(small), tally: Tally::expecting(expected), traces: 0 };
 
     if let Some(seed) = number_after("--trace") {
@@ -106,7 +109,12 @@ impl Check {
         for line in output.split(|&byte| byte == b'\n').filter(|line| !line.is_empty()) {
             let mut fields = std::str::from_utf8(line).expect("an answer is text").split('\t').skip(1);
             match (fields.next(), fields.next()) {
-                (Some("refused"), Some(number)) => self.tally.add(&format!("refused {number:0>2}"), 1),
+                (Some("refused"), Some(number)) => {
+                    self.tally.add(&format!("refused {number:0>2}"), 1);
+                    if number == "14" {
+                        self.tally.add(column_name(fields.next()), 1);
+                    }
+                }
                 (Some(word), _) => self.tally.add(word, 1),
                 (None, _) => self.tally.add("full", 1),
             }
@@ -149,6 +157,18 @@ impl Check {
             println!("lines: FAILED, never seen: {}", unseen.join(", "));
             exit(1);
         }
+    }
+}
+
+/// How the tally calls a column of refusal 14.
+fn column_name(column: Option<&str>) -> &'static str {
+    match column.and_then(|column| column.parse().ok()) {
+        Some(0) => COLUMNS[0],
+        Some(1..=15) => COLUMNS[1],
+        Some(16..=255) => COLUMNS[2],
+        Some(256..LINE_BYTES) => COLUMNS[3],
+        Some(LINE_BYTES) => COLUMNS[4],
+        _ => panic!("the model told column {column:?}"),
     }
 }
 

@@ -33,6 +33,7 @@ impl Model {
             }
             let number = number.min(BENCH_LINES - 1);
             let length = self
+                .serving(rest.is_empty() && !input.ends_with(b"\n"))
                 .line(line, number, &mut session, &mut tasks, &mut promises, &mut report, &mut answer_line)
                 .expect("everything lent to the line entry is of the right size");
             output.extend_from_slice(&answer_line[..length]);
@@ -44,9 +45,17 @@ impl Model {
             output.extend_from_slice(self.full());
         }
         if input.ends_with(b"\n") && self.is(Twist::EmptyLastAnswered) {
-            output.extend_from_slice(format!("{}\trefused\t14\n", number + 1).as_bytes());
+            output.extend_from_slice(format!("{}\trefused\t14\t0\n", number + 1).as_bytes());
         }
         output
+    }
+
+    /// The model that serves a line, which may be a last one without LF.
+    fn serving(&self, last_without_lf: bool) -> Model {
+        match self.twist {
+            Twist::LongLastTellsBadByte if last_without_lf => Model::twisted(Twist::LongTellsBadByte),
+            _ => *self,
+        }
     }
 
     fn full(&self) -> &'static [u8] {

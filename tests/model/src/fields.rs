@@ -10,6 +10,11 @@ pub(crate) enum Record {
 }
 
 impl Model {
+    /// Whether the line has one of the forms, its length aside.
+    pub fn is_well_formed(&self, line: &[u8]) -> bool {
+        self.record(line).is_some()
+    }
+
     /// What the line asks for, or nothing if it has no such form.
     pub(crate) fn record(&self, line: &[u8]) -> Option<Record> {
         let line = self.trimmed(line);
@@ -45,7 +50,7 @@ impl Model {
     }
 
     /// 1 to 5 digits, no leading zero but in 0 itself, at most 65535.
-    fn number(&self, field: &[u8]) -> Option<u16> {
+    pub(crate) fn number(&self, field: &[u8]) -> Option<u16> {
         let field = match field {
             [b'+', digits @ ..] if self.is(Twist::PlusTaken) => digits,
             [] if self.is(Twist::EmptyNumberIsZero) => b"0",

@@ -7,6 +7,8 @@
 
 mod answer;
 mod bench;
+mod bent_column;
+mod column;
 mod fields;
 mod line;
 mod promise_steps;

@@ -25,6 +25,11 @@ impl Session {
     }
 }
 
+/// The fields of a refusal: its number, and its column if it has one.
+fn refused(values: &[usize]) -> Vec<String> {
+    ["refused".to_string()].into_iter().chain(values.iter().map(usize::to_string)).collect()
+}
+
 impl Model {
     /// Answers one line, without its LF; gives the length of the answer line written.
     #[allow(clippy::too_many_arguments)]
@@ -62,15 +67,15 @@ impl Model {
         promises: &mut [u16],
         report: &mut [u16],
     ) -> Vec<String> {
-        let refused = |number: u16| vec!["refused".to_string(), number.to_string()];
         let longest = LINE_BYTES + self.slip(Twist::Takes2049Bytes) - self.slip(Twist::Refuses2048Bytes);
-        let record = if line.len() > longest { None } else { self.record(line) };
+        let too_long = line.len() > longest;
+        let record = if too_long { None } else { self.record(line) };
         if self.is(Twist::PlaceBeforeForm) && *session == Session::Unopened && !line.starts_with(b"open") {
-            return refused(15);
+            return self.out_of_place(line);
         }
         match (record, *session) {
-            (None, _) => refused(14),
-            (Some(Record::Step(_)), Session::Unopened) => refused(15),
+            (None, _) => self.bad_line(line, too_long),
+            (Some(Record::Step(_)), Session::Unopened) => self.out_of_place(line),
             (Some(Record::Step(step)), Session::Open { tasks: t, promises: p }) => {
                 let answer = self.step(&step, &mut tasks[..t], &mut promises[..p], report);
                 self.step_fields(answer, report)
@@ -80,13 +85,13 @@ impl Model {
                 let within_bounds = self.tables_within_bounds(t, p);
                 let second = before != Session::Unopened && !self.is(Twist::SecondOpenTaken);
                 if second && (within_bounds || !self.is(Twist::BoundsBeforeSecondOpen)) {
-                    return refused(15);
+                    return self.out_of_place(line);
                 }
                 if !within_bounds {
                     if self.is(Twist::RefusedOpenOpens) {
                         *session = Session::Open { tasks: 1, promises: 0 };
                     }
-                    return refused(1);
+                    return refused(&[1]);
                 }
                 if t > MOST_TASKS || p > MOST_PROMISES {
                     // Only a twist comes here: there are no words to open so wide.
@@ -96,6 +101,22 @@ impl Model {
                 self.write_tables(&Tables::fresh(t, p), &mut tasks[..t], &mut promises[..p]);
                 vec!["opened".to_string()]
             }
+        }
+    }
+
+    /// Refusal 14 and the column with which the line went bad.
+    fn bad_line(&self, line: &[u8], too_long: bool) -> Vec<String> {
+        match self.twist {
+            Twist::ColumnUntold => refused(&[14]),
+            _ => refused(&[14, self.told_column(line, too_long)]),
+        }
+    }
+
+    /// Refusal 15.
+    fn out_of_place(&self, line: &[u8]) -> Vec<String> {
+        match self.twist {
+            Twist::FifteenTellsColumn => refused(&[15, line.len()]),
+            _ => refused(&[15]),
         }
     }
 

@@ -139,6 +139,39 @@ twists! {
     EmptyLineSkipped, InLines, "an empty line gets no answer";
     LastLineDropped, InLines, "a last line without LF is not read";
     EmptyLastAnswered, InLines, "nothing after the last LF is answered";
+
+    // The column of a line that went bad.
+    ColumnUntold, InLines, "14 is told without a column";
+    FifteenTellsColumn, InLines, "15 tells a column too";
+    ColumnFromOne, InLines, "columns are counted from 1";
+    ColumnOfField, InLines, "the column is where the bad field starts";
+    ColumnOfLineEnd, InLines, "the column is where the line ends";
+    ColumnAtTabStops, InLines, "a tab counts up to the next multiple of 8";
+    ColumnRollsOver, InLines, "columns roll over at 256";
+    ColumnFromList, InLines, "in a list the column is counted from the list's start";
+    LongTellsBadByte, InLines, "a line too long tells a bad byte before 2,048";
+    LongTellsLength, InLines, "a line too long tells its length";
+    LongTellsLastByte, InLines, "a line too long tells 2,047";
+    LongLastTellsBadByte, InLines, "a last line without LF that is too long tells a bad byte";
+    LimitCounts, InLines, "what would get too long is no start of a line";
+    LastByteUnseen, InLines, "the last byte of a line of 2,048 is not looked at";
+    NumbersBeforeWord, InLines, "a bad number is told before a bad word";
+    MissingBeforeBad, InLines, "a missing field is told before a bad byte";
+    SurplusBeforeBad, InLines, "a surplus field is told before a bad byte";
+    BadWordAtZero, InLines, "a bad word gives column 0";
+    BadWordAtEnd, InLines, "a bad word gives the column of its end";
+    EarlyEndAtLastByte, InLines, "an early end gives the last byte's column";
+    ListTabIsSurplus, InLines, "an async that ends with the tab before its list gives that tab's column";
+    SurplusTabLate, InLines, "a surplus tab gives the column after it";
+    EmptyNumberAtTab, InLines, "an empty number gives the column of the tab before it";
+    LeadingZeroEarly, InLines, "a leading zero gives the zero's own column";
+    LeadingZeroLate, InLines, "a leading zero is found one byte late";
+    TooLargeAtStart, InLines, "a number too large gives the column of its start";
+    TooLargeAtEnd, InLines, "a number too large gives the column of its end";
+    TooLargeEarly, InLines, "a number too large is found one byte early";
+    TooLargeLate, InLines, "a number too large is found one byte late";
+
+    // The millionth line.
     FullLate, InFull, "full comes a line late";
     FullEarly, InFull, "full comes a line early";
     FullNumbered, InFull, "full has a line number";
