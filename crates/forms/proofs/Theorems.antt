@@ -102,8 +102,7 @@ column-in-line s c e = go (bad-column s c e)
 pub starts-before : (L : List ℕ → Type 0) (s : List ℕ) (c d : ℕ) → BadAt L s c → d ≤ c → Start L (take d s)
 starts-before L s c d b h =
     let (x, l) = b .start in
-    let q : c ≡ d + (c - d) = omega arith in
-    (
+    let q : c ≡ d + (c - d) = omega arith in (
       take (c - d) (drop d s) ++ x,
       subst L (ap (λ (i : ℕ). take i s ++ x) q ∙ ap (λ (y : List ℕ). y ++ x) (take-add d (c - d) s) ∙ append-assoc (take d s) (take (c - d) (drop d s)) x) l,
     )
