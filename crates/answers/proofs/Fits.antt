@@ -1,6 +1,7 @@
 -- Every answer line has room in the lent one. A line number has at most 6 digits and a word at most 7 bytes; the fields of a step's answer
 -- are at most 322 numbers below 1000, since they are numbers and places of tables that were found within their bounds and sound, or the
--- number of a refusal. So the line has at most 1,303 bytes. It shows the words of its own step alone (`shown-words`).
+-- number of a refusal. So the line has at most 1,303 bytes. It shows the words of its own step alone (`shown-words`). A bad line's answer has
+-- two numbers of at most six digits (`placed-fits`).
 -- Assumes nothing.
 use Prim.Native.Nat.{ℕ, zero, suc, _+_, _*_, _≤_, _<_}
 use mathlib.Core.List.{List, [], _∷_}
@@ -12,7 +13,7 @@ use native.Mathlib.Decide.{ℕ-discrete}
 use lib.Dec.{ltb}
 use borrow.Author.Tests.{ltb-true}
 use lib.ListN.{length, length-append}
-use Rattle.words.specs.Words.{Form, small, waitsOn, ownedBy}
+use Rattle.words.specs.Words.{Form, small, waitsOn, ownedBy, lastLine}
 use Rattle.words.specs.Lists.{is, places, over}
 use Rattle.words.proofs.BoolLaws.{and-split}
 use Rattle.words.proofs.ListLaws.{places-at, places-length, count-le}
@@ -57,22 +58,22 @@ wordOf-length (Ended m n) = omega arith
 wordOf-length (Refused r) = omega arith
 wordOf-length (RefusedAt r i) = omega arith
 
-text-fits : (n : ℕ) (a : Answer) (rs : List ℕ) → n ≤ 999999 → length (fieldsText (fieldsOf a rs)) ≤ 4 * 322 → length (answerText n a rs) ≤ longestAnswer
+text-fits : (n : ℕ) (a : Answer) (rs : List ℕ) → n ≤ lastLine → length (fieldsText (fieldsOf a rs)) ≤ 4 * 322 → length (answerText n a rs) ≤ longestAnswer
 unfolding answerText
 text-fits n a rs h few = rw (length-append, length-append, length-append) (omega (arith, dec-six n (omega arith), wordOf-length a))
 
-low-fits : (n : ℕ) (a : Answer) (rs : List ℕ) → n ≤ 999999 → Every Low (fieldsOf a rs) → length (fieldsOf a rs) ≤ 322 → length (answerText n a rs) ≤ longestAnswer
+low-fits : (n : ℕ) (a : Answer) (rs : List ℕ) → n ≤ lastLine → Every Low (fieldsOf a rs) → length (fieldsOf a rs) ≤ 322 → length (answerText n a rs) ≤ longestAnswer
 low-fits n a rs h low few = text-fits n a rs h (omega (arith, fieldsText-four (fieldsOf a rs) low))
 
-pub refused-fits : (n r : ℕ) (rs : List ℕ) → n ≤ 999999 → r < 1000 → length (answerText n (Refused r) rs) ≤ longestAnswer
+pub refused-fits : (n r : ℕ) (rs : List ℕ) → n ≤ lastLine → r < 1000 → length (answerText n (Refused r) rs) ≤ longestAnswer
 unfolding fieldsOf
 refused-fits n r rs h l = low-fits n (Refused r) rs h (one-more l no-more) (omega arith)
 
-pub placed-fits : (n r i : ℕ) (rs : List ℕ) → n ≤ 999999 → r ≤ 999999 → i ≤ 999999 → length (answerText n (RefusedAt r i) rs) ≤ longestAnswer
+pub placed-fits : (n r i : ℕ) (rs : List ℕ) → n ≤ lastLine → r < 1000000 → i < 1000000 → length (answerText n (RefusedAt r i) rs) ≤ longestAnswer
 unfolding fieldsOf fieldsText
 placed-fits n r i rs h k l = text-fits n (RefusedAt r i) rs h (rw (length-append, length-append) (omega (arith, dec-six r (omega arith), dec-six i (omega arith))))
 
-pub opened-fits : (n : ℕ) (rs : List ℕ) → n ≤ 999999 → length (answerText n Opened rs) ≤ longestAnswer
+pub opened-fits : (n : ℕ) (rs : List ℕ) → n ≤ lastLine → length (answerText n Opened rs) ≤ longestAnswer
 unfolding fieldsOf
 opened-fits n rs h = low-fits n Opened rs h no-more (omega arith)
 
@@ -250,7 +251,7 @@ step-modest m s x = guarded-by Modest (first (tableRows small m s)) s (raw small
 
 -- ---- so every answer of a step has room
 
-pub step-answer-fits : (n m : ℕ) (s : Tables) (x : Step) (rs : List ℕ) → n ≤ 999999
+pub step-answer-fits : (n m : ℕ) (s : Tables) (x : Step) (rs : List ℕ) → n ≤ lastLine
     → length (answerText n (step small m s x .answer) (over (step small m s x .words) rs)) ≤ longestAnswer
 step-answer-fits n m s x rs h =
     let o = step small m s x in

@@ -111,8 +111,8 @@ early : (L : List ℕ → Type 0) (s : List ℕ) (c d : ℕ) → BadAt L s c →
 early L s c d a b h = let (x, l) = starts-before L s d (suc c) b h in a .stop (omega (arith, b .within)) x l
 
 -- and no other column fits
-pub one-column : (L : List ℕ → Type 0) (s : List ℕ) (c d : ℕ) → BadAt L s c → BadAt L s d → c ≡ d
-one-column L s c d a b = go (decLt c d) (decLt d c)
+pub badAt-one : (L : List ℕ → Type 0) (s : List ℕ) (c d : ℕ) → BadAt L s c → BadAt L s d → c ≡ d
+badAt-one L s c d a b = go (decLt c d) (decLt d c)
   where
     go : Dec (c < d) → Dec (d < c) → c ≡ d
     go (yes h) y = absurd (early L s c d a b h)
@@ -126,7 +126,7 @@ column-found s (goes-bad c h b) = go (verdict s) (formOf-within s h)
   where
     go : {f : Form} → Verdict s f → formOf s ≡ f → formOf s ≡ F.Bad c
     go (verdict-well f g p) e = absurd (b .not-one (formed s p))
-    go (verdict-bad d a) e = e ∙ ap F.Bad (one-column Formed s d c (bad-formed s d a) b)
+    go (verdict-bad d a) e = e ∙ ap F.Bad (badAt-one Formed s d c (bad-formed s d a) b)
 
 -- A LINE IS WELL FORMED AND SHORT ENOUGH, OR IT HAS A COLUMN
 pub form-or-column : (s : List ℕ) → (Formed s × (length s ≤ longestLine)) ⊎ ((c : ℕ) × ColumnOf s c)
@@ -146,8 +146,8 @@ form-no-column s w h (too-long g) = omega arith
 form-no-column s w h (goes-bad c g b) = b .not-one w
 
 -- a line has one column
-pub column-one : (s : List ℕ) {c d : ℕ} → ColumnOf s c → ColumnOf s d → c ≡ d
-column-one s {c} {d} p q = let z : F.Bad c ≡ F.Bad d = sym (column-found s p) ∙ column-found s q in cc
+pub one-column : (s : List ℕ) {c d : ℕ} → ColumnOf s c → ColumnOf s d → c ≡ d
+one-column s {c} {d} p q = let z : F.Bad c ≡ F.Bad d = sym (column-found s p) ∙ column-found s q in cc
 
 -- ---- the list
 

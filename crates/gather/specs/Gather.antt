@@ -9,7 +9,7 @@
 --   gatheredIn o have s at   what the buffer o holds then
 --   Gathered o have s at x r    the block s was gathered from `at` on into the buffer o: x is what it holds then, and r the answer
 --   Holds t o x n      the buffer, which held o, holds the line t so far: x is what it holds, and n its count
---   numberAfter n      the number of the line after line n; none after 999999
+--   numberAfter n      the number of the line after line n; none after the last
 -- Theorems.antt: block by block the buffer holds the whole line so far, or says that it is too long.
 -- Assumes nothing.
 use Prim.Native.Nat.{ℕ, _+_, min}
@@ -18,6 +18,7 @@ use mathlib.Core.Bool.{Bool, true, false, cond}
 use mathlib.Core.Path.{_≡_}
 use lib.ListN.{length, take, drop}
 use lib.Dec.{ltb, eqb}
+use Rattle.words.specs.Words.{lastLine}
 use Rattle.words.specs.Lists.{over}
 use Rattle.buffers.specs.Buffers.{fitting}
 use Rattle.fields.specs.Fields.{lineEnd, runTo, endFrom}
@@ -62,4 +63,4 @@ isLast have = cond (eqb have 0) false true
 
 -- "a line number (1 to 999999)", "At the millionth line it prints `full` and stops"
 unfoldable pub numberAfter : ℕ → Numbering
-numberAfter n = cond (ltb n 999999) (N.Line (n + 1)) N.Full
+numberAfter n = cond (ltb n lastLine) (N.Line (n + 1)) N.Full

@@ -9,7 +9,7 @@ use lib.Dec.{eqb, leb}
 use borrow.Author.Tests.{eqb-true, leb-true, lt-ltb, le-ltb}
 use lib.ListN.{length, take, drop, length-replicate}
 use lib.Seq.{take-append-seam, take-all}
-use Rattle.words.specs.Words.{small, sizesInBounds}
+use Rattle.words.specs.Words.{small, sizesInBounds, lastLine}
 use Rattle.words.specs.Lists.{over}
 use Rattle.words.proofs.BoolLaws.{clash, and-split}
 use Rattle.rules.specs.Tables.{tables}
@@ -40,7 +40,7 @@ use Rattle.lines.specs.Lines.{lentWell, entered, notEntered, Entry, Ente
 -- ---- the entry
 
 pub record Lent (n : ℕ) (session : Session) (tasks promises report out : ℕ) : Type 0 where
-  pub most : n ≤ 999999
+  pub most : n ≤ lastLine
   pub session-is : inSession session ≡ true
   pub tasks-are : tasks ≡ 64
   pub promises-are : promises ≡ 256
@@ -49,13 +49,13 @@ pub record Lent (n : ℕ) (session : Session) (tasks promises report out : ℕ) 
 pub lentWell-true : (n : ℕ) (session : Session) (tasks promises report out : ℕ) → lentWell n session tasks promises report out ≡ true → Lent n session tasks promises report out
 unfolding lentWell
 lentWell-true n session tasks promises report out e =
-    let (abc, d) = and-split ((leb 1 n && leb n 999999) && inSession session && (eqb tasks 64 && eqb promises 256)) (eqb report 384 && leb longestAnswer out) e in
-    let (ab, c) = and-split ((leb 1 n && leb n 999999) && inSession session) (eqb tasks 64 && eqb promises 256) abc in
-    let (a, b) = and-split (leb 1 n && leb n 999999) (inSession session) ab in
-    let (a₁, a₂) = and-split (leb 1 n) (leb n 999999) a in
+    let (abc, d) = and-split ((leb 1 n && leb n lastLine) && inSession session && (eqb tasks 64 && eqb promises 256)) (eqb report 384 && leb longestAnswer out) e in
+    let (ab, c) = and-split ((leb 1 n && leb n lastLine) && inSession session) (eqb tasks 64 && eqb promises 256) abc in
+    let (a, b) = and-split (leb 1 n && leb n lastLine) (inSession session) ab in
+    let (a₁, a₂) = and-split (leb 1 n) (leb n lastLine) a in
     let (c₁, c₂) = and-split (eqb tasks 64) (eqb promises 256) c in
     let (d₁, d₂) = and-split (eqb report 384) (leb longestAnswer out) d in
-    record { most = leb-true n 999999 a₂; session-is = b; tasks-are = eqb-true tasks 64 c₁; promises-are = eqb-true promises 256 c₂; room = leb-true longestAnswer out d₂ }
+    record { most = leb-true n lastLine a₂; session-is = b; tasks-are = eqb-true tasks 64 c₁; promises-are = eqb-true promises 256 c₂; room = leb-true longestAnswer out d₂ }
 
 -- the lent words have room for every list
 pub count-most : (s : List ℕ) → countIn (formOf s) ≤ 1024
@@ -99,7 +99,7 @@ fresh-small T P = go (sizesInBounds small T P)
     go true = omega arith
     go false = omega arith
 
-deed-fits : (f : LineForm) (vs : List ℕ) (session : Session) (ts ps rs : List ℕ) (m n : ℕ) → n ≤ 999999 → InLine f
+deed-fits : (f : LineForm) (vs : List ℕ) (session : Session) (ts ps rs : List ℕ) (m n : ℕ) → n ≤ lastLine → InLine f
     → length (answerText n (deedOf f vs session ts ps m .answer) (over (deedOf f vs session ts ps m .words) rs)) ≤ longestAnswer
 unfolding deedOf unopenedDeed openDeed openOutcome
 deed-fits (F.Open T P) vs Unopened ts ps rs m n h l = go (eqb (freshRefusal small T P) 0)
@@ -121,7 +121,7 @@ deed-fits (F.Async t c k) vs (Open T P) ts ps rs m n h l = step-answer-fits n m 
 deed-fits (F.End t) vs (Open T P) ts ps rs m n h l = step-answer-fits n m (tables (take T ts) (take P ps)) (step-end t) rs h
 deed-fits (F.Bad c) vs (Open T P) ts ps rs m n h l = placed-fits n 14 c (over [] rs) h (omega arith) (omega (arith, l c refl))
 
-pub line-fits : (line : List ℕ) (session : Session) (ts ps rs : List ℕ) (n : ℕ) → n ≤ 999999
+pub line-fits : (line : List ℕ) (session : Session) (ts ps rs : List ℕ) (n : ℕ) → n ≤ lastLine
     → let d = deedOf (formOf line) (entriesOf line) session ts ps (length rs) in length (answerText n (d .answer) (over (d .words) rs)) ≤ longestAnswer
 line-fits line session ts ps rs n h = deed-fits (formOf line) (entriesOf line) session ts ps rs (length rs) n h (column-in-line line)
 

@@ -11,6 +11,7 @@ use mathlib.Core.List.{List}
 use mathlib.Core.Bool.{Bool, cond, _&&_}
 use lib.Dec.{eqb, leb, ltb}
 use lib.ListN.{length, take, replicate}
+use Rattle.words.specs.Words.{lastLine}
 use Rattle.words.specs.Lists.{over}
 use Rattle.forms.specs.Forms.{longestLine}
 use Rattle.forms.specs.Judging.{formOf, entriesOf}
@@ -22,7 +23,7 @@ use Rattle.lines.specs.declared.Entered.{Entered}
 -- "a line number (1 to 999999), a session value .., tables of exactly 64 and 256 words, a report of exactly 384 words and an answer line of at least 2,048 bytes"
 unfoldable pub lentWell : ℕ → Session → ℕ → ℕ → ℕ → ℕ → Bool
 lentWell n session tasks promises report out =
-    (leb 1 n && leb n 999999) && inSession session && (eqb tasks 64 && eqb promises 256) && (eqb report 384 && leb longestAnswer out)
+    (leb 1 n && leb n lastLine) && inSession session && (eqb tasks 64 && eqb promises 256) && (eqb report 384 && leb longestAnswer out)
 
 -- ---- the entry
 
