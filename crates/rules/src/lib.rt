@@ -1,7 +1,7 @@
 // The answers. What each step answers, and when, stands in specs/; what is promised of it, in proofs/Promises.antt.
 
 // An answer; the counts and numbers that belong to it are in its cases, the lists are in the report. `Opened` is the answer to a line that opens a session, all
-// others are given by the steps.
+// others are given by the steps. The place of a refusal is where it lies: in the list of an async, or, with refusal 14, the column in a bad line.
 pub enum Answer {
     Opened,
     Made,
