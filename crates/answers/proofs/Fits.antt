@@ -16,14 +16,14 @@ use lib.ListN.{length, length-append}
 use Rattle.words.specs.Words.{Form, small, waitsOn, ownedBy, lastLine}
 use Rattle.words.specs.Lists.{is, places, over}
 use Rattle.words.proofs.BoolLaws.{and-split}
-use Rattle.words.proofs.ListLaws.{places-at, places-length, count-le}
+use Rattle.words.proofs.ListLaws.{places-at, places-length, count-le, allPass, in-passes}
 use Rattle.words.proofs.WordLaws.{inBounds-true}
 use Rattle.rules.specs.Tables.{Tables, taskAt, promiseAt, live, awaitedBy, ownerOf}
 use Rattle.rules.specs.Sound.{TaskWord, unused, ready, ended, waits, PromiseWord, unmade, done, owned, blamed, Sound}
 use Rattle.rules.specs.Answers.{numberOf, valuesOf}
 use Rattle.rules.specs.Refusals.{Row, first, tableRows, getRows, entryRows, entryRefusal, firstBad}
 use Rattle.rules.specs.Steps.{Step, step-new, step-set, step-get, step-async, step-end, Outcome, outcome, awaits, withWait, withStarted, pairs, followed, guarded, started, rows, effect, raw, step}
-use Rattle.rules.specs.Demands.{numbers}
+use Rattle.rules.specs.Demands.{paperNumbers, Refusal, plain, placed}
 use Rattle.rules.specs.declared.Answer.{Answer}
 use Rattle.rules.specs.declared.Answer.the-variants.{Opened, Made, Set, Value, Blamed, Waits, Cycle, Started, Ended, Refused, RefusedAt}
 use Rattle.rules.proofs.Accepted.{got-is}
@@ -32,7 +32,7 @@ use Rattle.rules.proofs.Order.{guarded-none, guarded-some, got-cases}
 use Rattle.rules.proofs.PlaceLaws.{firstBad-place}
 use Rattle.rules.proofs.RefusalLaws.{actorRows-none, getRows-none}
 use Rattle.rules.proofs.SoundTest.{chain-bound}
-use Rattle.rules.proofs.Promises.{test-means-sound}
+use Rattle.rules.proofs.Promises.{test-means-sound, refused-by-a-number-of-its-own}
 use Rattle.numbers.proofs.PrintLaws.{dec-six}
 use Rattle.writers.specs.Texts.{fieldsText, Every, no-more, one-more}
 use Rattle.writers.proofs.WriterLaws.{fieldsText-four}
@@ -89,10 +89,10 @@ guarded-by Q r s o refused passed = go (ℕ-discrete r 0)
 started-by : (Q : Outcome → Type 0) (B : ℕ) (s : Tables) (t c : ℕ) (list : List ℕ) (i : ℕ)
     → Q (outcome (RefusedAt (entryRefusal B (s .promises) t list i) i) s []) → Q (outcome Started (withStarted s c list) []) → Q (started B s t c list i)
 unfolding started
-started-by Q B s t c list i placed passed = go (ltb i (length list))
+started-by Q B s t c list i stopped passed = go (ltb i (length list))
   where
     go : (b : Bool) → Q (cond b (outcome (RefusedAt (entryRefusal B (s .promises) t list i) i) s []) (outcome Started (withStarted s c list) []))
-    go true = placed
+    go true = stopped
     go false = passed
 
 pairs-length : (k : ℕ) (s : Tables) (t p : ℕ) → length (pairs k s t p) ≡ 2 * k
@@ -123,38 +123,15 @@ shown-words F n s x rs = fieldsOf-over (step F n s x .answer) (step F n s x .wor
 
 -- ---- its numbers are small
 
--- the number, the values and the report words of an outcome
+-- the values and the report words of an outcome
 record Modest (o : Outcome) : Type 0 where
-  pub number : Low (numberOf (o .answer))
   pub values : Every Low (valuesOf (o .answer))
   pub words : Every Low (o .words)
   pub few : length (o .words) ≤ 320
 
 -- without words
-modest : {a : Answer} (s : Tables) → Low (numberOf a) → Every Low (valuesOf a) → Modest (outcome a s [])
-modest s l v = record { number = l; values = v; words = no-more; few = omega arith }
-
--- a refusal's number is one of the paper's
-abbrev allBelow14 : List ℕ → Bool
-allBelow14 [] = true
-allBelow14 (n ∷ ns) = ltb n 14 && allBelow14 ns
-
-first-below : (all : List Row) → allBelow14 (numbers all) ≡ true → first all < 14
-unfolding first
-first-below [] e = omega arith
-first-below ((r, true) ∷ rest) e = ltb-true r 14 (and-split (ltb r 14) (allBelow14 (numbers rest)) e .0)
-first-below ((r, false) ∷ rest) e = first-below rest (and-split (ltb r 14) (allBelow14 (numbers rest)) e .1)
-
-rows-below : (F : Form) (s : Tables) (x : Step) → first (rows F s x) < 14
-rows-below F s (step-new t p) = first-below (rows F s (step-new t p)) refl
-rows-below F s (step-set t p) = first-below (rows F s (step-set t p)) refl
-rows-below F s (step-get t p) = first-below (rows F s (step-get t p)) refl
-rows-below F s (step-async t c list) = first-below (rows F s (step-async t c list)) refl
-rows-below F s (step-end t) = first-below (rows F s (step-end t)) refl
-
-entryRefusal-below : (B : ℕ) (ps : List ℕ) (t : ℕ) (list : List ℕ) (i : ℕ) → entryRefusal B ps t list i < 14
-unfolding entryRefusal
-entryRefusal-below B ps t list i = first-below (entryRows B ps t list i) refl
+modest : {a : Answer} (s : Tables) → Every Low (valuesOf a) → Modest (outcome a s [])
+modest s v = record { values = v; words = no-more; few = omega arith }
 
 -- the places of a table
 places-low : (f : ℕ → Bool) (ws : List ℕ) → length ws ≤ small .mostPromises → Every Low (places f 0 ws)
@@ -189,30 +166,28 @@ module _ (s : Tables) (tasks : length (s .tasks) ≤ small .mostTasks) (promises
   pairs-low (suc k) t p a b = one-more a (one-more b (pairs-low k (ownerOf s p) (awaitedBy s (ownerOf s p)) (owner-low p) (awaited-low (ownerOf s p))))
 
   get-modest : (t p : ℕ) → first (rows small s (step-get t p)) ≡ 0 → Modest (effect small s (step-get t p))
-  unfolding followed numberOf valuesOf
+  unfolding followed valuesOf
   get-modest t p e =
       let (a, e₁) = actorRows-none (s .tasks) t (getRows (s .promises) p) e in
       let (b, m) = getRows-none (s .promises) p e₁ in
       got-is small s (omega arith) sd t p Modest (a .ready) b m
-      (λ x. modest s (omega arith) no-more)
-      (λ b h x. modest s (omega arith) (one-more (omega arith) no-more))
+      (λ x. modest s no-more)
+      (λ b h x. modest s (one-more (omega arith) no-more))
       (λ u l h o c z.
       let k = chain-bound s c in
       let live-most = count-le live (s .tasks) in
       record {
-        number = omega arith;
         values = one-more (omega arith) no-more;
         words = pairs-low (1 + length l) t p (omega (arith, a .below)) (omega arith);
         few = omega (arith, pairs-length (1 + length l) s t p);
       })
-      (λ u l h o c z. modest (withWait s t p) (omega arith) (one-more (omega (arith, chain-bound s c, count-le live (s .tasks))) no-more))
+      (λ u l h o c z. modest (withWait s t p) (one-more (omega (arith, chain-bound s c, count-le live (s .tasks))) no-more))
 
   effect-modest : (x : Step) → first (rows small s x) ≡ 0 → Modest (effect small s x)
-  unfolding numberOf valuesOf
-  effect-modest (step-new t p) e = modest _ (omega arith) no-more
+  unfolding valuesOf
+  effect-modest (step-new t p) e = modest _ no-more
   effect-modest (step-set t p) e =
       record {
-        number = omega arith;
         values = one-more (places-few (is (waitsOn p)) (s .tasks) (omega arith)) no-more;
         words = places-low (is (waitsOn p)) (s .tasks) (omega arith);
         few = omega (arith, places-length (is (waitsOn p)) 0 (s .tasks));
@@ -221,33 +196,57 @@ module _ (s : Tables) (tasks : length (s .tasks) ≤ small .mostTasks) (promises
   effect-modest (step-async t c list) e =
       let bad = firstBad (entryRefusal (small .base) (s .promises) t list) (length list) 0 in
       let at : Low bad = omega (arith, firstBad-place (small .base) (s .promises) t list (length list)) in
-      let by = entryRefusal-below (small .base) (s .promises) t list bad in
-      started-by Modest (small .base) s t c list bad (modest s (omega arith) (one-more at no-more)) (modest _ (omega arith) no-more)
+      started-by Modest (small .base) s t c list bad (modest s (one-more at no-more)) (modest _ no-more)
   effect-modest (step-end t) e =
       let mine = is (ownedBy t) in
       let theirs = awaits (s .promises) (ownedBy t) in
       record {
-        number = omega arith;
         values = one-more (places-few mine (s .promises) promises) (one-more (places-few theirs (s .tasks) (omega arith)) no-more);
         words = every-append Low (places-low mine (s .promises) promises) (places-low theirs (s .tasks) (omega arith));
         few = rw length-append (omega (arith, places-length mine 0 (s .promises), places-length theirs 0 (s .tasks)));
       }
 
-refused-modest : (s : Tables) (r : ℕ) → r < 14 → Modest (outcome (Refused r) s [])
-unfolding numberOf valuesOf
-refused-modest s r h = modest s (omega arith) no-more
+refused-modest : (s : Tables) (r : ℕ) → Modest (outcome (Refused r) s [])
+unfolding valuesOf
+refused-modest s r = modest s no-more
 
 -- refused or not, in whatever tables
 step-modest : (m : ℕ) (s : Tables) (x : Step) → Modest (step small m s x)
-step-modest m s x = guarded-by Modest (first (tableRows small m s)) s (raw small s x) (λ y. refused-modest s _ (first-below (tableRows small m s) refl)) within
+step-modest m s x = guarded-by Modest (first (tableRows small m s)) s (raw small s x) (λ y. refused-modest s _) within
   where
     within : first (tableRows small m s) ≡ 0 → Modest (raw small s x)
     within z =
         let (b, e) = tableRows-none small m s z in
         let size = inBounds-true small (length (s .tasks)) (length (s .promises)) m b in
         let sd = test-means-sound (small .base) s (omega (arith, size .tasks)) e in
-        guarded-by Modest (first (rows small s x)) s (effect small s x) (λ y. refused-modest s _ (rows-below small s x))
+        guarded-by Modest (first (rows small s x)) s (effect small s x) (λ y. refused-modest s _)
         (λ y. effect-modest s (size .tasks) (size .promises) sd x y)
+
+-- a refusal's number is one of the paper's, and any other is at most 108
+answer-low : (a : Answer) → (Refusal a → Low (numberOf a)) → Low (numberOf a)
+unfolding numberOf
+answer-low Opened h = omega arith
+answer-low Made h = omega arith
+answer-low (Set n) h = omega arith
+answer-low Value h = omega arith
+answer-low (Blamed b) h = omega arith
+answer-low (Waits k) h = omega arith
+answer-low (Cycle k) h = omega arith
+answer-low Started h = omega arith
+answer-low (Ended m n) h = omega arith
+answer-low (Refused r) h = h (plain r)
+answer-low (RefusedAt r i) h = h (placed r i)
+
+papers-low : (x : Step) → allPass (λ r. ltb r 1000) (paperNumbers x) ≡ true
+papers-low (step-new t p) = refl
+papers-low (step-set t p) = refl
+papers-low (step-get t p) = refl
+papers-low (step-async t c list) = refl
+papers-low (step-end t) = refl
+
+step-low : (m : ℕ) (s : Tables) (x : Step) → Low (numberOf (step small m s x .answer))
+step-low m s x =
+    answer-low (step small m s x .answer) (λ w. ltb-true (numberOf (step small m s x .answer)) 1000 (in-passes (λ r. ltb r 1000) (papers-low x) (refused-by-a-number-of-its-own small m s x w)))
 
 -- ---- so every answer of a step has room
 
@@ -258,5 +257,5 @@ step-answer-fits n m s x rs h =
     let d = step-modest m s x in
     let own = sym (shown-words small m s x rs) in
     low-fits n (o .answer) (over (o .words) rs) h
-    (subst (Every Low) own (fieldsOf-every Low (o .answer) (o .words) (d .number) (d .values) (d .words)))
+    (subst (Every Low) own (fieldsOf-every Low (o .answer) (o .words) (step-low m s x) (d .values) (d .words)))
     (subst (λ (ns : List ℕ). length ns ≤ 322) own (omega (arith, fieldsOf-length (o .answer) (o .words), d .few)))

@@ -33,7 +33,7 @@ use Rattle.sessions.specs.declared.Session.{Session}
 use Rattle.sessions.specs.declared.Session.the-variants.{Unopened, Open}
 use Rattle.sessions.specs.declared.Done.{Done}
 use Rattle.sessions.specs.Sessions.{Deed, refusedBy, opened, openDeed, unopenedDeed, openOutcome, deedOf, inSession, Does}
-use Rattle.sessions.proofs.SessionLaws.{deed-list}
+use Rattle.sessions.proofs.SessionLaws.{freshRefusal-most, deed-list}
 use Rattle.lines.specs.declared.Entered.{Entered}
 use Rattle.lines.specs.Lines.{lentWell, entered, notEntered, Entry, Enters, heldLine, entryOf, replyOf}
 
@@ -91,14 +91,6 @@ deed-read s o x f session ts ps n j h =
 
 -- ---- every answer fits
 
-fresh-small : (T P : ℕ) → freshRefusal small T P < 1000
-unfolding freshRefusal first
-fresh-small T P = go (sizesInBounds small T P)
-  where
-    go : (b : Bool) → cond (not b) 1 0 < 1000
-    go true = omega arith
-    go false = omega arith
-
 deed-fits : (f : LineForm) (vs : List ℕ) (session : Session) (ts ps rs : List ℕ) (m n : ℕ) → n ≤ lastLine → InLine f
     → length (answerText n (deedOf f vs session ts ps m .answer) (over (deedOf f vs session ts ps m .words) rs)) ≤ longestAnswer
 unfolding deedOf unopenedDeed openDeed openOutcome
@@ -106,7 +98,7 @@ deed-fits (F.Open T P) vs Unopened ts ps rs m n h l = go (eqb (freshRefusal smal
   where
     go : (b : Bool) → length (answerText n (cond b (opened T P ts ps) (refusedBy (Refused (freshRefusal small T P)) Unopened ts ps) .answer) (over (cond b (opened T P ts ps) (refusedBy (Refused (freshRefusal small T P)) Unopened ts ps) .words) rs)) ≤ longestAnswer
     go true = opened-fits n (over [] rs) h
-    go false = refused-fits n (freshRefusal small T P) (over [] rs) h (fresh-small T P)
+    go false = refused-fits n (freshRefusal small T P) (over [] rs) h (omega (arith, freshRefusal-most T P))
 deed-fits (F.New t p) vs Unopened ts ps rs m n h l = refused-fits n 15 (over [] rs) h (omega arith)
 deed-fits (F.Set t p) vs Unopened ts ps rs m n h l = refused-fits n 15 (over [] rs) h (omega arith)
 deed-fits (F.Get t p) vs Unopened ts ps rs m n h l = refused-fits n 15 (over [] rs) h (omega arith)

@@ -12,7 +12,7 @@ use Rattle.forms.specs.Forms.{ColumnOf}
 use Rattle.forms.specs.Judging.{formOf, entriesOf}
 use Rattle.forms.proofs.Theorems.{bad-column, column-found}
 use Rattle.sessions.specs.declared.Session.{Session}
-use Rattle.sessions.specs.Sessions.{Deed, badAt, refusedBy, deedOf}
+use Rattle.sessions.specs.Sessions.{Deed, refusedAtColumn, refusedBy, deedOf}
 use Rattle.sessions.proofs.Theorems.{OnlyAnswers, a-refused-line-only-answers, a-bad-line-only-gets-its-column, only-a-bad-line-gets-14}
 use Rattle.lines.specs.declared.Entered.{Entered}
 use Rattle.lines.specs.Lines.{lentWell, entered, notEntered, Entry, Enters, entryOf}
@@ -49,7 +49,7 @@ a-refused-line-only-gets-its-answer-line line n session ts ps rs out r = go (len
 
 -- A BAD LINE IS TOLD ITS COLUMN, in whatever session, and is only told that; `answers/Theorems` `placed-text` says how its answer line reads
 pub a-bad-line-is-told-its-column : (line : List ℕ) {c : ℕ} → ColumnOf line c → (n : ℕ) (session : Session) (ts ps rs out : List ℕ) → lentWell n session (length ts) (length ps) (length rs) (length out) ≡ true
-    → entryOf line n session ts ps rs out ≡ entered n rs out (refusedBy (badAt c) session ts ps)
+    → entryOf line n session ts ps rs out ≡ entered n rs out (refusedBy (refusedAtColumn c) session ts ps)
 unfolding entryOf
 a-bad-line-is-told-its-column line {c} k n session ts ps rs out w =
     rw (w, column-found line k, a-bad-line-only-gets-its-column c (entriesOf line) session ts ps (length rs))

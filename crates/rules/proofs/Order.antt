@@ -13,6 +13,7 @@ use lib.ListN.{length}
 use Rattle.words.specs.Words.{Form, setWord, firstOwned}
 use Rattle.words.specs.Lists.{In, top, pop}
 use Rattle.words.proofs.BoolLaws.{true-is-not-false, clash}
+use Rattle.words.proofs.ListLaws.{in-left, in-right}
 use Rattle.rules.specs.Tables.{Tables, promiseAt}
 use Rattle.rules.specs.Answers.{numberOf, valuesOf}
 use Rattle.rules.specs.Refusals.{Row, first, earlier, tableRows, entryRows, entryRefusal, firstBad}
@@ -329,14 +330,6 @@ number-refuses (RefusedAt r i) h = placed r i
 given-in : {rows : List Row} {r : ℕ} → FirstGiven r rows → In r (numbers rows)
 given-in now = top
 given-in (later g) = pop (given-in g)
-
-in-left : {r : ℕ} {xs : List ℕ} (ys : List ℕ) → In r xs → In r (xs ++ ys)
-in-left ys top = top
-in-left ys (pop i) = pop (in-left ys i)
-
-in-right : {r : ℕ} (xs : List ℕ) {ys : List ℕ} → In r ys → In r (xs ++ ys)
-in-right [] i = i
-in-right (x ∷ xs) i = pop (in-right xs i)
 
 rows-among : {r : ℕ} (x : Step) → In r (paperRows x) → In r (paperNumbers x)
 rows-among (step-new t p) i = i

@@ -47,6 +47,15 @@ refusal-number F T P e = not-is-false (sizesInBounds F T P) (first-none 1 (not (
 pub freshRefusal-none : (T P : ℕ) → freshRefusal small T P ≡ 0 → (T ≤ 64) × (P ≤ 256)
 freshRefusal-none T P e = let s = sizesInBounds-true small T P (refusal-number small T P e) in (s .tasks, s .promises)
 
+-- its one refusal is 1
+pub freshRefusal-most : (T P : ℕ) → freshRefusal small T P ≤ 1
+unfolding freshRefusal first
+freshRefusal-most T P = go (sizesInBounds small T P)
+  where
+    go : (b : Bool) → cond (not b) 1 0 ≤ 1
+    go true = omega arith
+    go false = omega arith
+
 pub does-refused : {d : Deed} (ts ps : List ℕ) (session : Session) (a : Answer) {x : Done} → d ≡ refusedBy a session ts ps → x .answer ≡ a → x .session ≡ session → Does d [] x ts ps []
 does-refused ts ps session a e q b = rw e (record { answer = q; session = b; tasks = refl; promises = refl; report = sym (over-none []) })
 

@@ -1,18 +1,17 @@
 -- What is promised of a line in a session. Assumes nothing.
 use Prim.Native.Nat.{ℕ}
-use mathlib.Core.Path.{_≡_, refl, ap, sym, subst, _∙_}
-use mathlib.Core.List.{List, [], _∷_, _++_}
-use mathlib.Core.Bool.{Bool, true, false, cond, not, _&&_}
+use mathlib.Core.Path.{_≡_, refl, ap, sym, _∙_}
+use mathlib.Core.List.{List, [], _++_}
+use mathlib.Core.Bool.{Bool, true, false, cond, not}
 use native.Mathlib.Omega.{arith}
 use lib.Dec.{eqb}
 use borrow.Author.Tests.{eq-eqb}
 use lib.ListN.{take, drop, take-append-drop}
-use Rattle.words.specs.Words.{small, sizesInBounds}
-use Rattle.words.specs.Lists.{In, top, pop}
-use Rattle.words.proofs.BoolLaws.{true-is-not-false, and-split, clash}
+use Rattle.words.specs.Words.{small}
+use Rattle.words.proofs.BoolLaws.{true-is-not-false, clash}
+use Rattle.words.proofs.ListLaws.{allPass, in-passes}
 use Rattle.rules.specs.Tables.{Tables, tables}
 use Rattle.rules.specs.Answers.{numberOf}
-use Rattle.rules.specs.Refusals.{first}
 use Rattle.rules.specs.Sessions.{freshRefusal}
 use Rattle.rules.specs.Steps.{Step, step-new, step-set, step-get, step-async, step-end, Outcome, outcome, step}
 use Rattle.rules.specs.Demands.{paperNumbers, Refusal, plain, placed}
@@ -24,7 +23,8 @@ use Rattle.forms.specs.declared.Form.the-variants as F
 use Rattle.sessions.specs.declared.Session.{Session}
 use Rattle.sessions.specs.declared.Session.the-variants.{Unopened, Open}
 use Rattle.sessions.specs.declared.Done.{Done}
-use Rattle.sessions.specs.Sessions.{Deed, badAt, refusedBy, opened, stepped, openDeed, unopenedDeed, openOutcome, deedOf, Does}
+use Rattle.sessions.proofs.SessionLaws.{freshRefusal-most}
+use Rattle.sessions.specs.Sessions.{Deed, refusedAtColumn, refusedBy, opened, stepped, openDeed, unopenedDeed, openOutcome, deedOf, Does}
 
 -- nothing but the answer is left of a deed
 pub record OnlyAnswers (d : Deed) (session : Session) (ts ps : List ℕ) : Type 0 where
@@ -62,7 +62,7 @@ a-refused-line-only-answers (F.Set t p) vs Unopened ts ps n r = refused-unopened
 a-refused-line-only-answers (F.Get t p) vs Unopened ts ps n r = refused-unopened (Refused 15) ts ps
 a-refused-line-only-answers (F.Async t c k) vs Unopened ts ps n r = refused-unopened (Refused 15) ts ps
 a-refused-line-only-answers (F.End t) vs Unopened ts ps n r = refused-unopened (Refused 15) ts ps
-a-refused-line-only-answers (F.Bad c) vs Unopened ts ps n r = refused-unopened (badAt c) ts ps
+a-refused-line-only-answers (F.Bad c) vs Unopened ts ps n r = refused-unopened (refusedAtColumn c) ts ps
 a-refused-line-only-answers f vs (Open T P) ts ps n r = in-session f r
   where
     s : Tables
@@ -78,7 +78,7 @@ a-refused-line-only-answers f vs (Open T P) ts ps n r = in-session f r
     in-session (F.Get t p) r = taken (step-get t p) r
     in-session (F.Async t c k) r = taken (step-async t c vs) r
     in-session (F.End t) r = taken (step-end t) r
-    in-session (F.Bad c) r = stepped-same T P ts ps (outcome (badAt c) s []) refl refl
+    in-session (F.Bad c) r = stepped-same T P ts ps (outcome (refusedAtColumn c) s []) refl refl
 
 -- no line but an accepted open changes the session value
 pub only-open-opens : (f : Form) (vs : List ℕ) (session : Session) (ts ps : List ℕ) (n : ℕ) → (deedOf f vs session ts ps n .answer ≡ Opened → ⊥) → deedOf f vs session ts ps n .session ≡ session
@@ -97,22 +97,14 @@ only-open-opens (F.Bad c) vs Unopened ts ps n h = refl
 only-open-opens f vs (Open T P) ts ps n h = refl
 
 -- A LINE THAT GOES BAD ONLY GETS ITS COLUMN
-pub a-bad-line-only-gets-its-column : (column : ℕ) (vs : List ℕ) (session : Session) (ts ps : List ℕ) (n : ℕ) → deedOf (F.Bad column) vs session ts ps n ≡ refusedBy (badAt column) session ts ps
+pub a-bad-line-only-gets-its-column : (column : ℕ) (vs : List ℕ) (session : Session) (ts ps : List ℕ) (n : ℕ) → deedOf (F.Bad column) vs session ts ps n ≡ refusedBy (refusedAtColumn column) session ts ps
 unfolding deedOf unopenedDeed openOutcome
 a-bad-line-only-gets-its-column column vs Unopened ts ps n = refl
 a-bad-line-only-gets-its-column column vs (Open T P) ts ps n = rw (take-append-drop T ts, take-append-drop P ps)
 
 -- ---- 14 is the line's own number
 
-abbrev lacks : ℕ → List ℕ → Bool
-lacks r [] = true
-lacks r (q ∷ qs) = not (eqb r q) && lacks r qs
-
-lacks-in : (r : ℕ) {qs : List ℕ} → lacks r qs ≡ true → In r qs → ⊥
-lacks-in r e (top {xs = qs}) = true-is-not-false (sym (and-split (not (eqb r r)) (lacks r qs) e .0) ∙ ap not (eq-eqb r r refl))
-lacks-in r e (pop {y = q} {xs = qs} i) = lacks-in r (and-split (not (eqb r q)) (lacks r qs) e .1) i
-
-no-steps-own : (x : Step) → lacks 14 (paperNumbers x) ≡ true
+no-steps-own : (x : Step) → allPass (λ r. not (eqb r 14)) (paperNumbers x) ≡ true
 no-steps-own (step-new t p) = refl
 no-steps-own (step-set t p) = refl
 no-steps-own (step-get t p) = refl
@@ -122,15 +114,8 @@ no-steps-own (step-end t) = refl
 step-not-14 : {A : Type 0} (n : ℕ) (s : Tables) (x : Step) → numberOf (step small n s x .answer) ≡ 14 → A
 step-not-14 n s x e =
     let i = refused-by-a-number-of-its-own small n s x (a-number-below-100-refuses small n s x (omega arith)) in
-    absurd (lacks-in 14 (no-steps-own x) (subst (λ (r : ℕ). In r (paperNumbers x)) e i))
-
-fresh-not-14 : {A : Type 0} (T P : ℕ) → freshRefusal small T P ≡ 14 → A
-unfolding freshRefusal first
-fresh-not-14 {A} T P = go (sizesInBounds small T P)
-  where
-    go : (b : Bool) → _≡_ {A = ℕ} (cond (not b) 1 0) 14 → A
-    go true e = absurd (omega arith)
-    go false e = absurd (omega arith)
+    let q = in-passes (λ r. not (eqb r 14)) (no-steps-own x) i in
+    absurd (true-is-not-false (sym q ∙ ap not (eq-eqb (numberOf (step small n s x .answer)) 14 e)))
 
 -- ONLY A LINE THAT GOES BAD IS REFUSED BY 14
 pub only-a-bad-line-gets-14 : (f : Form) (vs : List ℕ) (session : Session) (ts ps : List ℕ) (n : ℕ) → numberOf (deedOf f vs session ts ps n .answer) ≡ 14 → (column : ℕ) × (f ≡ F.Bad column)
@@ -139,7 +124,7 @@ only-a-bad-line-gets-14 (F.Open T P) vs Unopened ts ps n e = go (eqb (freshRefus
   where
     go : (b : Bool) → numberOf (cond b (opened T P ts ps) (refusedBy (Refused (freshRefusal small T P)) Unopened ts ps) .answer) ≡ 14 → (column : ℕ) × (F.Open T P ≡ F.Bad column)
     go true e = absurd (omega arith)
-    go false e = fresh-not-14 T P e
+    go false e = absurd (omega (arith, freshRefusal-most T P))
 only-a-bad-line-gets-14 (F.New t p) vs Unopened ts ps n e = absurd (omega arith)
 only-a-bad-line-gets-14 (F.Set t p) vs Unopened ts ps n e = absurd (omega arith)
 only-a-bad-line-gets-14 (F.Get t p) vs Unopened ts ps n e = absurd (omega arith)

@@ -2,7 +2,7 @@
 --
 --   inSession session            the session value is one that a session may have
 --   Deed                         what a line does: its answer, the session value, both tables and the report words
---   badAt column                 the answer to a line that goes bad at the column
+--   refusedAtColumn column       the answer to a line that goes bad at the column
 --   unopenedDeed f ts ps         what a line of the form f does before a session is opened
 --   openOutcome f vs n s         its outcome in an open session, on the tables s
 --   deedOf f vs session ts ps n  what it does
@@ -42,8 +42,8 @@ pub record Deed : Type 0 where
   pub words : List ℕ
 
 -- 02, request 1: "Refusal 14 should carry the column"
-abbrev pub badAt : ℕ → Answer
-badAt column = RefusedAt 14 column
+abbrev pub refusedAtColumn : ℕ → Answer
+refusedAtColumn column = RefusedAt 14 column
 
 -- 14, 15 and the refusal of an open "change no table and no report"
 abbrev pub refusedBy : Answer → Session → List ℕ → List ℕ → Deed
@@ -70,7 +70,7 @@ unopenedDeed (F.Set t p) ts ps = refusedBy (Refused 15) Unopened ts ps
 unopenedDeed (F.Get t p) ts ps = refusedBy (Refused 15) Unopened ts ps
 unopenedDeed (F.Async t c n) ts ps = refusedBy (Refused 15) Unopened ts ps
 unopenedDeed (F.End t) ts ps = refusedBy (Refused 15) Unopened ts ps
-unopenedDeed (F.Bad column) ts ps = refusedBy (badAt column) Unopened ts ps
+unopenedDeed (F.Bad column) ts ps = refusedBy (refusedAtColumn column) Unopened ts ps
 
 -- ---- in an open session
 
@@ -82,7 +82,7 @@ openOutcome (F.Set t p) vs n s = step small n s (step-set t p)
 openOutcome (F.Get t p) vs n s = step small n s (step-get t p)
 openOutcome (F.Async t c k) vs n s = step small n s (step-async t c vs)
 openOutcome (F.End t) vs n s = step small n s (step-end t)
-openOutcome (F.Bad column) vs n s = outcome (badAt column) s []
+openOutcome (F.Bad column) vs n s = outcome (refusedAtColumn column) s []
 
 -- ---- what a line does
 

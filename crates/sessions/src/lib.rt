@@ -17,7 +17,7 @@ ghost use lib.ListN.{length, take};
 ghost use Rattle.rules.specs.Tables.{tables as tablesOf};
 ghost use Rattle.rules.specs.Contracts.{Gives};
 ghost use Rattle.forms.specs.Judging.{countIn};
-ghost use Rattle.sessions.specs.Sessions.{inSession, badAt, unopenedDeed, openDeed, openOutcome, deedOf, Does, InPart};
+ghost use Rattle.sessions.specs.Sessions.{inSession, refusedAtColumn, unopenedDeed, openDeed, openOutcome, deedOf, Does, InPart};
 
 // The session value: unopened, or the numbers of tasks and promises of the session.
 pub enum Session {
@@ -42,8 +42,8 @@ pub fn in_session(session: Session) -> bool
 }
 
 // The answer to a line that goes bad at the column.
-fn bad_at(column: u16) -> Answer
-    ensures { λ r. ⌜ r ≡ badAt column ⌝ }
+fn refused_at_column(column: u16) -> Answer
+    ensures { λ r. ⌜ r ≡ refusedAtColumn column ⌝ }
 {
     Answer::RefusedAt {
         number: 14,
@@ -69,7 +69,7 @@ fn in_open(
         Form::Get(t, p) => step_get(tasks, promises, report, t, p),
         Form::Async(t, c, n) => step_async(tasks, promises, report, t, c, &list[0..n]),
         Form::End(t) => step_end(tasks, promises, report, t),
-        Form::Bad(column) => bad_at(column),
+        Form::Bad(column) => refused_at_column(column),
     }
 }
 
@@ -116,7 +116,7 @@ fn unopened(form: Form, tasks: &mut [u16], promises: &mut [u16]) -> Done
         Form::Get(_, _) => refused_unopened(Answer::Refused(15)),
         Form::Async(_, _, _) => refused_unopened(Answer::Refused(15)),
         Form::End(_) => refused_unopened(Answer::Refused(15)),
-        Form::Bad(column) => refused_unopened(bad_at(column)),
+        Form::Bad(column) => refused_unopened(refused_at_column(column)),
     }
 }
 

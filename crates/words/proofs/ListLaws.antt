@@ -150,6 +150,23 @@ pub in-cons : {x y : ℕ} {xs : List ℕ} → In x (y ∷ xs) → (x ≡ y) ⊎ 
 in-cons top = inl refl
 in-cons (pop i) = inr i
 
+pub in-left : {x : ℕ} {xs : List ℕ} (ys : List ℕ) → In x xs → In x (xs ++ ys)
+in-left ys top = top
+in-left ys (pop i) = pop (in-left ys i)
+
+pub in-right : {x : ℕ} (xs : List ℕ) {ys : List ℕ} → In x ys → In x (xs ++ ys)
+in-right [] i = i
+in-right (x ∷ xs) i = pop (in-right xs i)
+
+-- what all pass, each passes
+abbrev pub allPass : (ℕ → Bool) → List ℕ → Bool
+allPass f [] = true
+allPass f (x ∷ xs) = f x && allPass f xs
+
+pub in-passes : (f : ℕ → Bool) {x : ℕ} {xs : List ℕ} → allPass f xs ≡ true → In x xs → f x ≡ true
+in-passes f {x} e (top {xs = xs}) = and-split (f x) (allPass f xs) e .0
+in-passes f e (pop {y = y} {xs = xs} i) = in-passes f (and-split (f y) (allPass f xs) e .1) i
+
 -- ---- the places are exactly those of the words that pass, rising
 
 -- x is i or more, and the word at x, counted from i, passes

@@ -62,8 +62,8 @@ step-end-requires c κs = search needs
 enum-known-form-6 : tie.Need-enum-known-form-6
 enum-known-form-6 c = search needs
 
-bad-at-requires : tie.Need-bad-at-requires
-bad-at-requires c κs = search needs
+refused-at-column-requires : tie.Need-refused-at-column-requires
+refused-at-column-requires c κs = search needs
 
 returns : tie.Need-returns
 unfolding openOutcome
@@ -136,7 +136,7 @@ returns-6 c = rw (c .before .before .before .before .before .before .before .bef
 
 returns-7 : tie.Need-returns-7
 unfolding openOutcome
-returns-7 c = rw (c .before .before .form6 .given .1) (record { answer = c .bad-at .ensures; tasks = refl; promises = refl; report = sym (over-none _) })
+returns-7 c = rw (c .before .before .form6 .given .1) (record { answer = c .refused-at-column .ensures; tasks = refl; promises = refl; report = sym (over-none _) })
 
 pub in-open-spec : {M : Type 1} → statement M
 in-open-spec =
@@ -157,7 +157,7 @@ in-open-spec =
     enum-known-form-5
     step-end-requires
     enum-known-form-6
-    bad-at-requires
+    refused-at-column-requires
     returns
     same-length
     same-length-2

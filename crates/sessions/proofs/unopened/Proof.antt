@@ -1,7 +1,7 @@
 use mathlib.Core.Path.{_∙_}
 use Rattle.rules.specs.declared.Answer.the-variants.{Refused}
 use Rattle.sessions.specs.declared.Session.the-variants.{Unopened}
-use Rattle.sessions.specs.Sessions.{badAt, unopenedDeed}
+use Rattle.sessions.specs.Sessions.{refusedAtColumn, unopenedDeed}
 use Rattle.sessions.proofs.SessionLaws.{does-refused}
 use native.Mathlib.Omega.{arith}
 use Rattle.words.proofs.Tests.{tests}
@@ -52,8 +52,8 @@ refused-unopened-requires-5 c κs = search needs
 enum-known-form-2 : tie.Need-enum-known-form-2
 enum-known-form-2 c = search needs
 
-bad-at-requires : tie.Need-bad-at-requires
-bad-at-requires c κs = search needs
+refused-at-column-requires : tie.Need-refused-at-column-requires
+refused-at-column-requires c κs = search needs
 
 refused-unopened-requires-6 : tie.Need-refused-unopened-requires-6
 refused-unopened-requires-6 c κs = search needs
@@ -90,7 +90,7 @@ returns-6 c = let a = c .before .before .before .before .before .args in does-re
 
 returns-7 : tie.Need-returns-7
 unfolding unopenedDeed
-returns-7 c = let a = c .before .before .before .before .before .before .before .args in does-refused (a .tasks .now) (a .promises .now) Unopened (badAt _) (rw (c .before .before .before .form2 .given .1)) (c .refused-unopened6 .ensures .0 ∙ c .before .bad-at .ensures) (c .refused-unopened6 .ensures .1)
+returns-7 c = let a = c .before .before .before .before .before .before .before .args in does-refused (a .tasks .now) (a .promises .now) Unopened (refusedAtColumn _) (rw (c .before .before .before .form2 .given .1)) (c .refused-unopened6 .ensures .0 ∙ c .before .refused-at-column .ensures) (c .refused-unopened6 .ensures .1)
 
 pub unopened-spec : {M : Type 1} → statement M
 unopened-spec =
@@ -109,7 +109,7 @@ unopened-spec =
     enum-told-5
     refused-unopened-requires-5
     enum-known-form-2
-    bad-at-requires
+    refused-at-column-requires
     refused-unopened-requires-6
     same-length
     same-length-2
