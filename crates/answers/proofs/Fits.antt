@@ -4,8 +4,8 @@
 -- two numbers of at most six digits (`placed-fits`).
 -- Assumes nothing.
 use Prim.Native.Nat.{ℕ, zero, suc, _+_, _*_, _≤_, _<_}
-use mathlib.Core.List.{List, [], _∷_}
-use mathlib.Core.Bool.{Bool, true, false, cond, _&&_}
+use mathlib.Core.List.{List, []}
+use mathlib.Core.Bool.{Bool, true, false, cond}
 use mathlib.Core.Path.{_≡_, refl, sym, subst}
 use mathlib.Core.Logic.{_≢_}
 use native.Mathlib.Omega.{arith}
@@ -15,13 +15,12 @@ use borrow.Author.Tests.{ltb-true}
 use lib.ListN.{length, length-append}
 use Rattle.words.specs.Words.{Form, small, waitsOn, ownedBy, lastLine}
 use Rattle.words.specs.Lists.{is, places, over}
-use Rattle.words.proofs.BoolLaws.{and-split}
 use Rattle.words.proofs.ListLaws.{places-at, places-length, count-le, allPass, in-passes}
 use Rattle.words.proofs.WordLaws.{inBounds-true}
 use Rattle.rules.specs.Tables.{Tables, taskAt, promiseAt, live, awaitedBy, ownerOf}
 use Rattle.rules.specs.Sound.{TaskWord, unused, ready, ended, waits, PromiseWord, unmade, done, owned, blamed, Sound}
 use Rattle.rules.specs.Answers.{numberOf, valuesOf}
-use Rattle.rules.specs.Refusals.{Row, first, tableRows, getRows, entryRows, entryRefusal, firstBad}
+use Rattle.rules.specs.Refusals.{first, tableRows, getRows, entryRefusal, firstBad}
 use Rattle.rules.specs.Steps.{Step, step-new, step-set, step-get, step-async, step-end, Outcome, outcome, awaits, withWait, withStarted, pairs, followed, guarded, started, rows, effect, raw, step}
 use Rattle.rules.specs.Demands.{paperNumbers, Refusal, plain, placed}
 use Rattle.rules.specs.declared.Answer.{Answer}

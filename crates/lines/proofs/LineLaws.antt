@@ -2,19 +2,18 @@
 use Prim.Native.Nat.{ℕ, suc, _-_, _≤_, _<_}
 use mathlib.Core.Path.{_≡_, refl, sym, ap, subst, subst₂, _∙_}
 use mathlib.Core.List.{List, []}
-use mathlib.Core.Bool.{Bool, true, false, cond, not, _&&_}
+use mathlib.Core.Bool.{Bool, true, false, cond, _&&_}
 use native.Mathlib.Omega.{arith}
 use native.Mathlib.Nat.{sub-zero}
 use lib.Dec.{eqb, leb}
 use borrow.Author.Tests.{eqb-true, leb-true, lt-ltb, le-ltb}
 use lib.ListN.{length, take, drop, length-replicate}
 use lib.Seq.{take-append-seam, take-all}
-use Rattle.words.specs.Words.{small, sizesInBounds, lastLine}
+use Rattle.words.specs.Words.{small, lastLine}
 use Rattle.words.specs.Lists.{over}
 use Rattle.words.proofs.BoolLaws.{clash, and-split}
 use Rattle.rules.specs.Tables.{tables}
 use Rattle.rules.specs.Sessions.{freshRefusal}
-use Rattle.rules.specs.Refusals.{first}
 use Rattle.rules.specs.Steps.{step-new, step-set, step-get, step-async, step-end}
 use Rattle.rules.specs.declared.Answer.{Answer}
 use Rattle.rules.specs.declared.Answer.the-variants.{Refused}
@@ -35,7 +34,7 @@ use Rattle.sessions.specs.declared.Done.{Done}
 use Rattle.sessions.specs.Sessions.{Deed, refusedBy, opened, openDeed, unopenedDeed, openOutcome, deedOf, inSession, Does}
 use Rattle.sessions.proofs.SessionLaws.{freshRefusal-most, deed-list}
 use Rattle.lines.specs.declared.Entered.{Entered}
-use Rattle.lines.specs.Lines.{lentWell, entered, notEntered, Entry, Enters, heldLine, entryOf, replyOf}
+use Rattle.lines.specs.Lines.{lentWell, entered, notEntered, Enters, heldLine, entryOf, replyOf}
 
 -- ---- the entry
 

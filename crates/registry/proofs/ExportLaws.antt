@@ -1,10 +1,10 @@
 -- Laws of specs/Exports.antt: the two ways out of an exported step, and that its contract leaves one outcome. Assumes nothing.
 use Prim.Native.Nat.{ℕ, _≤_, _<_}
-use mathlib.Core.Path.{_≡_, refl, sym, ap, _∙_}
-use mathlib.Core.List.{List, [], _∷_, _++_}
+use mathlib.Core.Path.{_≡_, refl, sym, _∙_}
+use mathlib.Core.List.{List}
 use native.Mathlib.Omega.{arith}
 use borrow.Author.Tests.{lt-ltb, le-ltb}
-use lib.ListN.{length, take}
+use lib.ListN.{length}
 use lib.Seq.{sets}
 use Rattle.words.proofs.ListLaws.{over-sets}
 use Rattle.rules.specs.Tables.{Tables}

@@ -1,28 +1,27 @@
 -- What a step that is not refused has found: in sound tables each step, whatever its numbers, leaves the tables as they were or moves their words as
 -- `SoundMoves` says. The soundness test is no part of it, so this serves the rules without it as well. Assumes nothing.
 use mathlib.Core.Path.{_≡_, refl, sym, ap, subst, _∙_}
-use mathlib.Core.Logic.{_⊎_, inl, inr, _≢_}
+use mathlib.Core.Logic.{inl, inr, _≢_}
 use mathlib.Core.List.{List, [], _∷_}
 use mathlib.Core.Bool.{Bool, true, false, cond}
-use Prim.Native.Nat.{ℕ, zero, suc, _+_, _-_, _≤_, _<_}
+use Prim.Native.Nat.{ℕ, _+_, _-_, _≤_, _<_}
 use native.Mathlib.Omega.{arith}
 use native.Mathlib.Decide.{ℕ-discrete}
-use lib.Dec.{eqb, leb, ltb}
+use lib.Dec.{eqb, ltb}
 use borrow.Author.Tests.{eqb-true, ltb-false, eq-eqb, ne-eqb, le-leb, lt-leb}
-use lib.ListN.{length, getD, set, length-set}
+use lib.ListN.{length, set, length-set}
 use Rattle.words.specs.Words.{Form, readyWord, endedWord, firstOwned, setWord, unmadeWord, waitsOn, ownedBy, blamedOn}
-use Rattle.words.specs.Lists.{is, places, In}
+use Rattle.words.specs.Lists.{is, In}
 use Rattle.words.proofs.ListLaws.{length-replaced, count-le, in-place}
 use Rattle.rules.specs.Tables.{Tables, taskAt, promiseAt, live}
-use Rattle.rules.specs.Chains.{Chain, here, link, Comes, chainEnd, view, graph, waits}
+use Rattle.rules.specs.Chains.{Chain, here, Comes, chainEnd, view, waits}
 use Rattle.rules.specs.Sound.{Live, TaskWord, PromiseWord, unused, ready, ended, unmade, done, owned, blamed, Sound}
 use Rattle.rules.specs.Sound as sound
 use Rattle.rules.specs.Refusals.{first, entryRefusal, firstBad, newRows, getRows, ownRows, childRows}
-use Rattle.rules.specs.Steps.{Step, step-new, step-set, step-get, step-async, step-end, actor, Outcome, outcome, withMade, withSet, withWait, withStarted, withEnded, given, awaits, Found, astray, back, free, walk, followed, got, guarded, started, rows, effect, raw}
+use Rattle.rules.specs.Steps.{Step, step-new, step-set, step-get, step-async, step-end, actor, Outcome, outcome, withMade, withSet, withStarted, withEnded, given, awaits, back, free, walk, followed, got, guarded, started, rows, effect, raw}
 use Rattle.rules.specs.declared.Answer.the-variants.{Value, Blamed, Started, Refused, RefusedAt}
-use Rattle.rules.proofs.GraphLaws.{chain-stays}
 use Rattle.rules.proofs.Moves.{SoundMoves}
-use Rattle.rules.proofs.RefusalLaws.{Acts, actorRows-none, childRows-none, newRows-none, getRows-none, ownRows-none, entryRefusal-none, firstBad-before}
+use Rattle.rules.proofs.RefusalLaws.{actorRows-none, childRows-none, newRows-none, getRows-none, ownRows-none, entryRefusal-none, firstBad-before}
 use Rattle.rules.proofs.SoundTest.{chain-bound}
 use Rattle.rules.proofs.StepMoves.{woken, new-sound, set-sound, get-sound, async-sound, end-sound}
 use Rattle.rules.proofs.WalkLaws.{walk-back, walk-free}

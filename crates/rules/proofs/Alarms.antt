@@ -1,14 +1,12 @@
 -- Demand 2 over the definitions, its second sentence: a get alarms exactly when the owners from the promise lead back to the asker, and reports that ring; the
 -- count that it answers is the number of these owners, alarm or not. It answers value and blamed exactly of a set and a blamed promise. Assumes nothing.
-use mathlib.Core.Path.{_≡_, refl, sym, ap, subst, _∙_}
+use mathlib.Core.Path.{_≡_, sym, ap, subst, _∙_}
 use mathlib.Core.Logic.{inl, _≢_}
 use mathlib.Core.List.{List, [], _∷_}
-use mathlib.Core.Bool.{Bool, true, false}
-use Prim.Native.Nat.{ℕ, zero, suc, _+_, _-_, _≤_, _<_}
+use Prim.Native.Nat.{ℕ, suc, _+_, _-_, _≤_, _<_}
 use native.Mathlib.Omega.{arith}
-use lib.Dec.{eqb, ltb, leb}
-use borrow.Author.Tests.{eq-eqb, ne-eqb, lt-ltb, lt-leb}
-use lib.ListN.{length, set, length-set}
+use borrow.Author.Tests.{ne-eqb, lt-ltb, lt-leb}
+use lib.ListN.{length, length-set}
 use Rattle.words.specs.Words.{Form, readyWord, waitsOn, firstWait, firstOwned, unmadeWord, setWord, ownedBy, blamedOn}
 use Rattle.words.specs.Lists.{In}
 use Rattle.words.proofs.ListLaws.{within-table}
@@ -16,7 +14,7 @@ use Rattle.rules.specs.Tables.{Tables, taskAt, promiseAt, liveTasks, awa
 use Rattle.rules.specs.Chains.{Chain, here, link, chainEnd, view, graph, waits}
 use Rattle.rules.specs.Sound.{Sound}
 use Rattle.rules.specs.Refusals.{first, getRows}
-use Rattle.rules.specs.Steps.{step-get, Outcome, outcome, withWait, Found, back, free, pairs, followed, got, guarded, step}
+use Rattle.rules.specs.Steps.{step-get, Outcome, outcome, withWait, back, free, pairs, followed, got, guarded, step}
 use Rattle.rules.specs.Demands.{Apart, Good, OwnersFrom, owners, Ring, closes, leads, Alarm, Wait}
 use Rattle.rules.specs.declared.Answer.{Answer}
 use Rattle.rules.specs.declared.Answer.the-variants.{Value, Blamed, Waits, Cycle, Refused}

@@ -1,23 +1,21 @@
 -- Demand 3, its last sentence: ending the tasks of a chain in turn, farthest first, takes one link off at each end; each of these ends is accepted. Assumes nothing.
 use mathlib.Core.Path.{_≡_, refl, sym, ap, subst, _∙_}
-use mathlib.Core.Logic.{inl, _≢_}
+use mathlib.Core.Logic.{inl}
 use mathlib.Core.List.{List, [], _∷_, _++_, append-assoc, append-nil}
-use mathlib.Core.Bool.{true, false, cond}
-use Prim.Native.Nat.{ℕ, zero, suc, _+_, _-_, _≤_, _<_}
+use Prim.Native.Nat.{ℕ, _+_, _-_, _≤_, _<_}
 use native.Mathlib.Omega.{arith}
-use lib.Dec.{eqb, ltb, leb}
-use borrow.Author.Tests.{eq-eqb, lt-ltb, lt-leb}
-use lib.ListN.{length, getD, take, drop, length-set, length-append, take-append-drop, length-drop, length-take}
+use borrow.Author.Tests.{lt-ltb, lt-leb}
+use lib.ListN.{length, take, drop, length-set, length-append, take-append-drop, length-drop, length-take}
 use lib.Seq.{take-at}
-use Rattle.words.specs.Words.{Form, inBounds, readyWord, endedWord, ownedBy, firstWait}
+use Rattle.words.specs.Words.{Form, readyWord, endedWord, ownedBy, firstWait}
 use Rattle.words.proofs.ListLaws.{length-replaced, within-table}
-use Rattle.rules.specs.Tables.{Tables, taskAt, promiseAt, live, waiting}
-use Rattle.rules.specs.Chains.{Chain, here, link, chainEnd, view, graph, waits}
+use Rattle.rules.specs.Tables.{Tables, taskAt}
+use Rattle.rules.specs.Chains.{Chain, here, chainEnd, view, graph, waits}
 use Rattle.rules.specs.Refusals.{first}
 use Rattle.rules.specs.Steps.{Step, step-end, withEnded, awaits, guarded, effect, step, run}
 use Rattle.rules.specs.Demands.{Apart, Good, ends, AllEnd, no-end, an-end}
 use Rattle.rules.proofs.GraphLaws.{end-ready, shorter, shorter-word}
-use Rattle.rules.proofs.Kept.{fits, good-step, good-run}
+use Rattle.rules.proofs.Kept.{good-run}
 use Rattle.rules.proofs.Moves.{det, frame}
 use Rattle.rules.proofs.SoundTest.{live-yes, sound-soundTest}
 use Rattle.rules.proofs.StepMoves.{woken, end-moves, end-wakes}

@@ -1,15 +1,15 @@
 -- Every step keeps sound tables sound, all-zero and fresh tables are sound, and so are the tables after any steps from fresh ones. Assumes nothing.
 use mathlib.Core.Path.{_≡_, refl, sym, ap, subst, subst₂, _∙_}
-use mathlib.Core.Logic.{_⊎_, inl, inr, _≢_}
+use mathlib.Core.Logic.{_⊎_, inl, inr}
 use mathlib.Core.List.{List, [], _∷_}
-use mathlib.Core.Bool.{Bool, true, false, not}
-use Prim.Native.Nat.{ℕ, zero, suc, _+_, _*_, _≤_, _<_}
+use mathlib.Core.Bool.{true, not}
+use Prim.Native.Nat.{ℕ, _+_, _*_, _≤_, _<_}
 use native.Mathlib.Omega.{arith}
 use native.Mathlib.Decide.{ℕ-discrete, decLt}
-use lib.ListN.{length, getD, set, replicate, length-set, length-replicate, getD-replicate, List·getD-eq-default}
+use lib.ListN.{length, getD, replicate, length-set, length-replicate, getD-replicate, List·getD-eq-default}
 use lib.Seq.{getD-set-same, getD-set-other}
-use Rattle.words.specs.Words.{Form, inBounds, unusedWord, readyWord, waitsOn, firstOwned, unmadeWord}
-use Rattle.words.proofs.WordLaws.{Bounds, inBounds-true, inBounds-of}
+use Rattle.words.specs.Words.{Form, inBounds, unusedWord, readyWord, waitsOn, firstOwned}
+use Rattle.words.proofs.WordLaws.{inBounds-true, inBounds-of}
 use Rattle.rules.specs.Tables.{Tables, tables, taskAt, fresh}
 use Rattle.rules.specs.Chains.{view}
 use Rattle.rules.specs.Sound.{Live, TaskWord, unused, ready, unmade, SoundView, Sound, soundTest}

@@ -1,15 +1,14 @@
 -- What an accepted step may do to one word, and what follows: links that do not lead to the acting task stay (`frame`), and sound tables stay sound
 -- (`sound-step`). A new step is one more proof of `Moves` and `SoundMoves`; nothing else moves. Assumes nothing.
-use mathlib.Core.Path.{_≡_, refl, sym, ap, subst, _∙_}
-use mathlib.Core.Logic.{_⊎_, inl, inr, _≢_}
-use mathlib.Core.List.{List, [], _∷_}
-use Prim.Native.Nat.{ℕ, zero, suc, _+_, _≤_, _<_}
+use mathlib.Core.Path.{_≡_, sym, ap, subst, _∙_}
+use mathlib.Core.Logic.{inl, inr, _≢_}
+use mathlib.Core.List.{[], _∷_}
+use Prim.Native.Nat.{ℕ, _+_, _≤_, _<_}
 use native.Mathlib.Omega.{arith}
 use native.Mathlib.Decide.{ℕ-discrete}
-use lib.ListN.{length}
 use Rattle.words.specs.Words.{unusedWord, readyWord, endedWord, waitsOn, unmadeWord, setWord, ownedBy, blamedOn}
-use Rattle.rules.specs.Chains.{Graph, Chain, here, link, Comes, View, WaitsFor, graph}
-use Rattle.rules.specs.Sound.{TaskWord, unused, ready, ended, waits, PromiseWord, unmade, done, owned, blamed, Live, SoundView}
+use Rattle.rules.specs.Chains.{here, link, Comes, View, WaitsFor, graph}
+use Rattle.rules.specs.Sound.{TaskWord, ready, ended, waits, PromiseWord, done, owned, blamed, Live, SoundView}
 use Rattle.rules.proofs.GraphLaws.{Det, Frame, grounds}
 
 pub det : (T : ℕ) (s : View) → Det (graph T s)

@@ -1,22 +1,21 @@
 -- Demand 2 over the definitions, its last sentence: a task that ends is named for exactly the promises that it owned, and whoever waited on one of them is made
 -- ready; a set makes ready exactly those who waited on it. Assumes nothing.
 use mathlib.Core.Path.{_≡_, refl, sym, ap, subst, _∙_}
-use mathlib.Core.Logic.{_≢_}
-use mathlib.Core.List.{List, [], _∷_, _++_}
-use mathlib.Core.Bool.{Bool, true, false}
-use Prim.Native.Nat.{ℕ, zero, suc, _+_, _-_, _≤_, _<_}
+use mathlib.Core.List.{List, []}
+use mathlib.Core.Bool.{Bool, true}
+use Prim.Native.Nat.{ℕ, _-_, _<_}
 use native.Mathlib.Omega.{arith}
 use native.Mathlib.Nat.{sub-zero}
 use native.Mathlib.Decide.{ℕ-discrete}
 use lib.ListN.{length, getD}
 use lib.Seq.{getD-set-same, getD-set-other}
-use Rattle.words.specs.Words.{Form, readyWord, endedWord, waitsOn, setWord, ownedBy, blamedOn}
-use Rattle.words.specs.Lists.{is, places, In, Rising}
-use Rattle.words.proofs.ListLaws.{is-hit, is-true, At, places-at, at-places, places-rising, within-table}
+use Rattle.words.specs.Words.{Form, readyWord, waitsOn, setWord, ownedBy, blamedOn}
+use Rattle.words.specs.Lists.{is, places, In}
+use Rattle.words.proofs.ListLaws.{is-hit, is-true, places-at, at-places, places-rising, within-table}
 use Rattle.rules.specs.Tables.{Tables, taskAt, promiseAt}
 use Rattle.rules.specs.Sound.{Sound}
-use Rattle.rules.specs.Refusals.{first, tableRows, actorRows, ownRows}
-use Rattle.rules.specs.Steps.{Step, step-set, step-end, Outcome, awaits, withSet, withEnded, guarded, rows, effect, raw, step}
+use Rattle.rules.specs.Refusals.{first, tableRows, ownRows}
+use Rattle.rules.specs.Steps.{Step, step-set, step-end, Outcome, awaits, withEnded, guarded, rows, effect, raw, step}
 use Rattle.rules.specs.Demands.{Named, Woken}
 use Rattle.rules.specs.declared.Answer.{Answer}
 use Rattle.rules.specs.declared.Answer.the-variants.{Set, Ended, Refused}

@@ -8,11 +8,11 @@ use Prim.Native.Nat.{ℕ, zero, suc, _+_, _-_, _≤_, _<_}
 use native.Mathlib.Omega.{arith}
 use native.Mathlib.Decide.{ℕ-discrete}
 use lib.Dec.{eqb, leb, ltb}
-use borrow.Author.Tests.{eqb-true, eqb-false, eq-eqb, ne-eqb, lt-ltb, ltb-true}
+use borrow.Author.Tests.{eqb-false, eq-eqb, ne-eqb, lt-ltb, ltb-true}
 use lib.ListN.{length}
 use Rattle.words.specs.Words.{Form, setWord, firstOwned}
 use Rattle.words.specs.Lists.{In, top, pop}
-use Rattle.words.proofs.BoolLaws.{true-is-not-false, clash}
+use Rattle.words.proofs.BoolLaws.{clash}
 use Rattle.words.proofs.ListLaws.{in-left, in-right}
 use Rattle.rules.specs.Tables.{Tables, promiseAt}
 use Rattle.rules.specs.Answers.{numberOf, valuesOf}

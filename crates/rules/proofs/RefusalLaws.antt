@@ -1,21 +1,20 @@
 -- Laws of specs/Refusals.antt: what the first refusal says of the rows, and what no refusal says of the numbers of a step. Assumes nothing.
 use Prim.Native.Nat.{ℕ, zero, suc, _+_, _-_, _≤_, _<_}
 use mathlib.Core.Path.{_≡_, refl, sym, ap, _∙_}
-use mathlib.Core.Logic.{_≢_, inl, inr, ⊎-elim}
+use mathlib.Core.Logic.{_≢_, ⊎-elim}
 use mathlib.Core.List.{List, [], _∷_, _++_}
-use mathlib.Core.Bool.{Bool, true, false, cond, not, _||_}
+use mathlib.Core.Bool.{Bool, true, false, cond, not}
 use native.Mathlib.Omega.{arith}
 use native.Mathlib.Decide.{ℕ-discrete}
 use native.Mathlib.Numerals.{add-one}
-use native.Mathlib.Nat.{sub-zero}
-use lib.Dec.{eqb, leb, ltb}
-use borrow.Author.Tests.{eqb-true, eqb-false, leb-false, ltb-true, eq-eqb, ne-eqb}
+use lib.Dec.{eqb, ltb}
+use borrow.Author.Tests.{eqb-true, eqb-false, ltb-true, ne-eqb}
 use lib.ListN.{length, getD}
-use Rattle.words.specs.Words.{readyWord, firstWait, unusedWord, unmadeWord, ownedBy}
+use Rattle.words.specs.Words.{readyWord, unusedWord, unmadeWord, ownedBy}
 use Rattle.words.specs.Lists.{allBelow}
 use Rattle.words.proofs.BoolLaws.{or-split, true-is-not-false}
 use Rattle.rules.specs.Tables.{live, waiting, closed}
-use Rattle.rules.specs.Refusals.{Row, first, earlier, actorRows, childRows, newRows, getRows, ownRows, entryRows, entryRefusal, differs, firstBad}
+use Rattle.rules.specs.Refusals.{Row, first, earlier, actorRows, childRows, newRows, getRows, ownRows, entryRefusal, differs, firstBad}
 
 pub not-is-false : (b : Bool) → not b ≡ false → b ≡ true
 not-is-false true e = refl

@@ -1,23 +1,23 @@
 -- The test of sound tables passes exactly on sound tables, and a chain has fewer links than there are live tasks. So how far the test follows a chain is no
 -- part of the meaning. Assumes nothing.
-use mathlib.Core.Path.{_≡_, refl, sym, ap, subst, _∙_}
-use mathlib.Core.Logic.{_⊎_, inl, inr, _≢_}
-use mathlib.Core.List.{List, [], _∷_}
-use mathlib.Core.Bool.{Bool, true, false, _&&_, _||_}
-use Prim.Native.Nat.{ℕ, zero, suc, _+_, _-_, _≤_, _<_}
+use mathlib.Core.Path.{_≡_, refl, ap, subst, _∙_}
+use mathlib.Core.Logic.{_⊎_, inl, inr}
+use mathlib.Core.List.{List, _∷_}
+use mathlib.Core.Bool.{true, _&&_, _||_}
+use Prim.Native.Nat.{ℕ, suc, _+_, _-_, _≤_, _<_}
 use native.Mathlib.Omega.{arith}
 use native.Mathlib.Decide.{decLt}
 use lib.Dec.{eqb, leb, ltb}
-use borrow.Author.Tests.{eqb-true, leb-true, ltb-true, eq-eqb, ne-eqb, le-leb, lt-leb, lt-ltb}
+use borrow.Author.Tests.{eqb-true, leb-true, ltb-true, eq-eqb, le-leb, lt-ltb}
 use lib.ListN.{length, List·getD-eq-default}
 use Rattle.words.specs.Words.{unusedWord, readyWord, endedWord, waitsOn, firstWait, unmadeWord, setWord, ownedBy, firstOwned, blamedOn}
-use Rattle.words.specs.Lists.{allBelow, count, In}
-use Rattle.words.proofs.BoolLaws.{and-yes, and-no, and-split, or-split, or-left, or-right}
+use Rattle.words.specs.Lists.{allBelow}
+use Rattle.words.proofs.BoolLaws.{and-yes, and-split, or-split, or-left, or-right}
 use Rattle.words.proofs.ListLaws.{allBelow-at, allBelow-make, count-le, pigeon}
 use Rattle.rules.specs.Tables.{Tables, taskAt, promiseAt, live, waiting, liveTasks, awaitedBy}
-use Rattle.rules.specs.Chains.{Chain, here, link, Comes, WaitsFor, view, graph}
+use Rattle.rules.specs.Chains.{Chain, here, link, Comes, WaitsFor, view}
 use Rattle.rules.specs.Chains as chains
-use Rattle.rules.specs.Sound.{Live, TaskWord, unused, ready, ended, waits, PromiseWord, unmade, done, owned, blamed, SoundView, Sound, comes, taskPasses, promisePasses, promiseWordPasses, soundTest}
+use Rattle.rules.specs.Sound.{Live, TaskWord, unused, ready, ended, waits, PromiseWord, unmade, done, owned, blamed, Sound, comes, taskPasses, promisePasses, soundTest}
 use Rattle.rules.proofs.GraphLaws.{on-chain, no-dup}
 use Rattle.rules.proofs.Moves.{det}
 use Rattle.rules.proofs.WalkLaws.{comes-chain, chain-comes}

@@ -2,24 +2,24 @@
 use mathlib.Core.Path.{_≡_, refl, sym, ap, subst, _∙_}
 use mathlib.Core.Logic.{_⊎_, inl, inr, _≢_}
 use mathlib.Core.List.{List, [], _∷_}
-use mathlib.Core.Bool.{Bool, true, false, _&&_}
-use Prim.Native.Nat.{ℕ, zero, suc, _+_, _-_, _≤_, _<_}
+use mathlib.Core.Bool.{Bool, true, false}
+use Prim.Native.Nat.{ℕ, _+_, _-_, _≤_, _<_}
 use native.Mathlib.Omega.{arith}
-use native.Mathlib.Decide.{ℕ-discrete, decLe}
-use lib.Dec.{eqb, leb}
-use borrow.Author.Tests.{eqb-true, leb-true, eq-eqb, ne-eqb, le-leb, lt-leb}
+use native.Mathlib.Decide.{ℕ-discrete}
+use lib.Dec.{leb}
+use borrow.Author.Tests.{eqb-true, leb-true, eq-eqb, le-leb}
 use lib.ListN.{length, getD, set}
 use lib.Seq.{getD-set-same, getD-set-other, lt-length-set}
-use Rattle.words.specs.Words.{unusedWord, readyWord, endedWord, waitsOn, firstWait, unmadeWord, setWord, ownedBy, blamedOn}
+use Rattle.words.specs.Words.{unusedWord, readyWord, endedWord, waitsOn, firstWait, unmadeWord, ownedBy, blamedOn}
 use Rattle.words.specs.Lists.{is, replaced, In, top, pop}
 use Rattle.words.proofs.BoolLaws.{and-yes, and-no, and-split, true-is-not-false}
 use Rattle.words.proofs.ListLaws.{is-hit, is-miss, replaced-hit, replaced-miss, length-replaced}
-use Rattle.rules.specs.Tables.{Tables, tables, taskAt, promiseAt, waiting}
-use Rattle.rules.specs.Chains.{View, view, graph, WaitsFor, Chain, here, link, Comes, chainEnd}
-use Rattle.rules.specs.Sound.{Live, SoundView}
+use Rattle.rules.specs.Tables.{Tables, taskAt, promiseAt, waiting}
+use Rattle.rules.specs.Chains.{View, view, graph, WaitsFor, Chain, link, chainEnd}
+use Rattle.rules.specs.Sound.{SoundView}
 use Rattle.rules.specs.Steps.{withMade, withSet, withWait, given, withStarted, awaits, withEnded}
-use Rattle.rules.proofs.GraphLaws.{Frame, chain-stays}
-use Rattle.rules.proofs.Moves.{det, TaskMove, PromiseMove, Moves, SoundMoves, frame, sound-step}
+use Rattle.rules.proofs.GraphLaws.{chain-stays}
+use Rattle.rules.proofs.Moves.{det, TaskMove, PromiseMove, Moves, SoundMoves, frame}
 
 -- ---- reads after a change
 

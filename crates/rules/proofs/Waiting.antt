@@ -1,9 +1,9 @@
 -- Demand 3, its first three sentences, in good tables: somebody is ready, a waiting task has one chain, and only a step of the task at its end alters it.
 -- Assumes nothing.
-use mathlib.Core.Path.{_≡_, refl, sym, ap, subst, _∙_}
+use mathlib.Core.Path.{_≡_, sym, ap, subst, _∙_}
 use mathlib.Core.Logic.{_⊎_, inl, inr, _≢_}
-use mathlib.Core.List.{List, [], _∷_}
-use Prim.Native.Nat.{ℕ, suc, _+_, _≤_, _<_}
+use mathlib.Core.List.{List, _∷_}
+use Prim.Native.Nat.{ℕ, suc, _≤_}
 use native.Mathlib.Omega.{arith}
 use lib.ListN.{length}
 use Rattle.words.specs.Words.{Form, readyWord, waitsOn}
@@ -13,7 +13,7 @@ use Rattle.rules.specs.Chains.{Chain, WaitsFor, chainEnd, view, graph, w
 use Rattle.rules.specs.Sound.{Live, TaskWord, unused, ready, ended, Sound}
 use Rattle.rules.specs.Sound as sound
 use Rattle.rules.specs.Steps.{Step, actor, step}
-use Rattle.rules.specs.Demands.{Apart, Good}
+use Rattle.rules.specs.Demands.{Apart}
 use Rattle.rules.proofs.Accepted.{Took, stayed, moved}
 use Rattle.rules.proofs.GraphLaws.{Det, Frame, on-chain, unique, end-ready, ready-is-end, chain-stays, words-stay}
 use Rattle.rules.proofs.Kept.{took-step}

@@ -1,21 +1,21 @@
 -- The walks that compute, with a bound on their hops, against the chains: what they find is a chain, and a chain is found if the bound allows for it. The laws
 -- of `walk` are said as a loop wants them. Assumes nothing.
-use mathlib.Core.Path.{_≡_, refl, sym, ap, ap₂, subst, _∙_}
-use mathlib.Core.Logic.{_⊎_, inl, inr, _≢_}
+use mathlib.Core.Path.{_≡_, refl, sym, ap, ap₂, _∙_}
+use mathlib.Core.Logic.{_≢_}
 use mathlib.Core.List.{List, [], _∷_}
-use mathlib.Core.Bool.{Bool, true, false, cond, _&&_, _||_}
+use mathlib.Core.Bool.{Bool, true, false, _&&_}
 use Prim.Native.Nat.{ℕ, zero, suc, _+_, _-_, _≤_, _<_}
 use native.Mathlib.Omega.{arith}
 use native.Mathlib.Decide.{ℕ-discrete}
 use lib.Dec.{eqb, leb, ltb}
-use borrow.Author.Tests.{eqb-true, leb-true, ltb-true, eq-eqb, ne-eqb, le-leb, lt-leb, lt-ltb}
-use lib.ListN.{length, getD}
+use borrow.Author.Tests.{leb-true, ltb-true, eq-eqb, ne-eqb, le-leb, lt-ltb}
+use lib.ListN.{length}
 use Rattle.words.specs.Words.{readyWord, firstWait, waitsOn, firstOwned, ownedBy}
-use Rattle.words.proofs.BoolLaws.{and-yes, and-split, true-is-not-false}
+use Rattle.words.proofs.BoolLaws.{and-yes, and-split}
 use Rattle.rules.specs.Tables.{Tables, taskAt, promiseAt}
-use Rattle.rules.specs.Chains.{Chain, here, link, Comes, chainEnd, WaitsFor, waits}
-use Rattle.rules.specs.Sound.{Hop, ready, lost, to, hop, hopWord, hopOwner, comes, comesBy}
-use Rattle.rules.specs.Steps.{Found, astray, back, free, walk, walkBy}
+use Rattle.rules.specs.Chains.{Chain, here, link, Comes, chainEnd, waits}
+use Rattle.rules.specs.Sound.{ready, lost, to, hop, hopWord, comes}
+use Rattle.rules.specs.Steps.{astray, back, free, walk}
 
 module _ (s : Tables) (w : ℕ) where
   -- what a hop from a task's word answers, and when

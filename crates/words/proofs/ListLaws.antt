@@ -2,15 +2,14 @@
 use Prim.Native.Nat.{ℕ, zero, suc, _+_, _-_, _≤_, _<_}
 use mathlib.Core.Path.{_≡_, refl, sym, ap, subst, _∙_}
 use mathlib.Core.Logic.{_⊎_, inl, inr, _≢_, ⊎-elim}
-use mathlib.Core.List.{List, [], _∷_, _++_, map, append-nil}
+use mathlib.Core.List.{List, [], _∷_, _++_, map}
 use mathlib.Core.Bool.{Bool, true, false, cond, _&&_}
 use native.Mathlib.Omega.{arith}
 use native.Mathlib.Decide.{ℕ-discrete, decLt}
 use native.Mathlib.Numerals.{add-one}
 use native.Mathlib.Nat.{zero-add, add-zero, add-suc, suc-add, eq-or-lt-of-le, le-of-suc-le-suc}
-use lib.Dec.{eqb}
 use borrow.Author.Tests.{eq-eqb, ne-eqb, eqb-true}
-use lib.ListN.{length, getD, set, take, drop, length-map, List·getD-map, List·getD-eq-default, drop-of-length-le, length-append, length-drop}
+use lib.ListN.{length, getD, set, drop, length-map, List·getD-map, List·getD-eq-default, drop-of-length-le, length-append, length-drop}
 use lib.Seq.{drop-cons, sets, sets-eq, getD-set-other}
 use Rattle.words.specs.Lists.{allBelow, is, places, changed, replaced, count, over, In, top, pop, Rising, none, one, more}
 use Rattle.words.proofs.BoolLaws.{and-yes, and-split, and-false, cond-true, cond-false, true-is-not-false}

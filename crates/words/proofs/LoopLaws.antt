@@ -1,15 +1,14 @@
 -- What a loop through a table holds after i turns, over any test and any change of a word: a law for the start, a turn and the end. Assumes nothing.
 use Prim.Native.Nat.{ℕ, _+_, _-_, _≤_, _<_}
-use mathlib.Core.Path.{_≡_, refl, sym, ap, _∙_}
+use mathlib.Core.Path.{_≡_, refl, ap, _∙_}
 use mathlib.Core.List.{List, [], _∷_, map}
 use mathlib.Core.Bool.{Bool, true, false}
 use native.Mathlib.Omega.{arith}
 use native.Mathlib.Numerals.{add-one}
-use native.Mathlib.Nat.{add-zero}
 use lib.ListN.{length, getD, set, drop, replicate, length-set}
 use lib.Seq.{sets}
 use Rattle.words.specs.Lists.{places}
-use Rattle.words.proofs.ListLaws.{mapped, mapped-none, mapped-more, mapped-get, mapped-all, mapped-length, places-step, places-end}
+use Rattle.words.proofs.ListLaws.{mapped, mapped-none, mapped-more, mapped-get, mapped-all, places-step, places-end}
 
 -- ---- a loop that rewrites each word by g
 

@@ -3,15 +3,9 @@ use lib.ListN.{length}
 use Rattle.lines.specs.Lines.{heldLine}
 use Rattle.lines.proofs.LineLaws.{lentWell-true, judged-count, deed-read, line-fits, enters-of}
 use native.Mathlib.Omega.{arith}
-use Rattle.words.proofs.Tests.{tests}
 use borrow.Author.Needs.{needs}
 use Rattle.lines.proofs.answer_line.Statement.{statement}
 use Rattle.lines.proofs.answer_line.Tie as tie
-use Rattle.lines.proofs.answer_line.Reads as reads
-use Rattle.lines.proofs.answer_line.Lts as lts
-use Rattle.answers.proofs.put_answer.Reads as put-answer-reads
-use Rattle.lines.proofs.judge_held.Reads as judge-held-reads
-use Rattle.sessions.proofs.act.Reads as act-reads
 
 judge-held-requires : tie.Need-judge-held-requires
 judge-held-requires c κs = search needs

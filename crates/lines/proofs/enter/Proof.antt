@@ -1,33 +1,23 @@
 use Rattle.lines.proofs.LineLaws.{replied-whole}
-use native.Mathlib.Omega.{arith}
 use borrow.Author.Needs.{needs}
 use Rattle.lines.proofs.enter.Statement.{statement}
 use Rattle.lines.proofs.enter.Tie as tie
-use Rattle.lines.proofs.enter.Reads as reads
-use Rattle.lines.proofs.enter.Lts as lts
-use Rattle.lines.proofs.reply.Reads as reply-reads
 
--- src/lib.rt:272:5
 reply-requires : tie.Need-reply-requires
 reply-requires c κs = search needs
 
--- src/lib.rt:261:1
 same-length : tie.Need-same-length
 same-length c = search needs
 
--- src/lib.rt:261:1
 same-length-2 : tie.Need-same-length-2
 same-length-2 c = search needs
 
--- src/lib.rt:261:1
 same-length-3 : tie.Need-same-length-3
 same-length-3 c = search needs
 
--- src/lib.rt:261:1
 same-length-4 : tie.Need-same-length-4
 same-length-4 c = search needs
 
--- src/lib.rt:261:1
 returns : tie.Need-returns
 returns c = let a = c .before .before .before .before .before .before .before .before .before .before .before .before .before .before .before .before .before .before .args in replied-whole (a .line .now) (a .number) (a .session) (a .tasks .now) (a .promises .now) (a .report .now) (a .answer .now) (c .before .before .before .before .before .before .before .before .reply .ensures)
 

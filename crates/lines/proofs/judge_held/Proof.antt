@@ -5,9 +5,6 @@ use native.Mathlib.Omega.{arith}
 use borrow.Author.Needs.{needs}
 use Rattle.lines.proofs.judge_held.Statement.{statement}
 use Rattle.lines.proofs.judge_held.Tie as tie
-use Rattle.lines.proofs.judge_held.Reads as reads
-use Rattle.lines.proofs.judge_held.Lts as lts
-use Rattle.forms.proofs.judge.Reads as judge-reads
 
 cast-t6 : tie.Need-cast-t6
 cast-t6 c = search needs

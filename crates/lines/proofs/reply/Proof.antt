@@ -1,49 +1,34 @@
 use mathlib.Core.Path.{refl, sym, _∙_}
 use Rattle.lines.specs.Lines.{entryOf}
-use native.Mathlib.Omega.{arith}
-use Rattle.words.proofs.Tests.{tests}
 use borrow.Author.Needs.{needs}
 use Rattle.lines.proofs.reply.Statement.{statement}
 use Rattle.lines.proofs.reply.Tie as tie
-use Rattle.lines.proofs.reply.Reads as reads
-use Rattle.lines.proofs.reply.Lts as lts
-use Rattle.lines.proofs.answer_line.Reads as answer-line-reads
-use Rattle.lines.proofs.lent_well.Reads as lent-well-reads
 
--- src/lib.rt:220:8
 lent-well-requires : tie.Need-lent-well-requires
 lent-well-requires c κs = search needs
 
--- src/lib.rt:234:13
 slice-aggregate-answer-line : tie.Need-slice-aggregate-answer-line
 slice-aggregate-answer-line c = search needs
 
--- src/lib.rt:230:9
 answer-line-requires : tie.Need-answer-line-requires
 answer-line-requires c κs = (sym (c .before .before .before .before .before .before .lent-well .ensures) ∙ c .before .before .before .before .before .if1 .taken, search needs)
 
--- src/lib.rt:230:9
 same-length : tie.Need-same-length
 same-length c = search needs
 
--- src/lib.rt:230:9
 same-length-2 : tie.Need-same-length-2
 same-length-2 c = search needs
 
--- src/lib.rt:230:9
 same-length-3 : tie.Need-same-length-3
 same-length-3 c = search needs
 
--- src/lib.rt:230:9
 same-length-4 : tie.Need-same-length-4
 same-length-4 c = search needs
 
--- src/lib.rt:230:9
 returns : tie.Need-returns
 unfolding entryOf
 returns c = rw (← c .before .before .before .before .before .before .before .before .before .before .before .before .before .before .before .before .lent-well .ensures, c .before .before .before .before .before .before .before .before .before .before .before .before .before .before .before .if1 .taken) (c .before .before .before .before .before .before .before .before .before .answer-line .ensures)
 
--- src/lib.rt:209:1
 returns-2 : tie.Need-returns-2
 unfolding entryOf
 returns-2 c = rw (← c .before .lent-well .ensures, c .if1 .left) (record { number = refl; session = refl; bytes = refl; tasks = refl; promises = refl; report = refl; answer = refl })

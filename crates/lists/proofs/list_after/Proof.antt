@@ -3,7 +3,6 @@
 use native.Mathlib.Omega.{arith}
 use Rattle.buffers.proofs.BufferLaws.{rest-lent}
 use Rattle.lists.proofs.ListLaws.{listing-past}
-use native.Mathlib.Omega.{arith}
 use borrow.Author.Needs.{needs}
 use Rattle.lists.proofs.list_after.Statement.{statement}
 use Rattle.lists.proofs.list_after.Tie as tie

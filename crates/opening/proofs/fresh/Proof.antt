@@ -1,61 +1,41 @@
 use mathlib.Core.Path.{sym, _∙_}
 use borrow.Author.Tests.{eq-eqb, ne-eqb}
 use Rattle.rules.specs.Sessions.{freshened}
-use native.Mathlib.Omega.{arith}
 use borrow.Author.Needs.{needs}
 use Rattle.opening.proofs.fresh.Statement.{statement}
 use Rattle.opening.proofs.fresh.Tie as tie
-use Rattle.opening.proofs.fresh.Reads as reads
-use Rattle.opening.proofs.fresh.Lts as lts
-use Rattle.opening.proofs.fresh_refusal.Reads as fresh-refusal-reads
-use Rattle.tables.proofs.fill.Reads as fill-reads
-use Rattle.tables.proofs.put.Reads as put-reads
-use Rattle.words.proofs.PromiseWord.unmade.Reads as unmade-reads
-use Rattle.words.proofs.TaskWord.ready.Reads as ready-reads
-use Rattle.words.proofs.TaskWord.unused.Reads as unused-reads
 
--- src/lib.rt:24:9
 fresh-refusal-requires : tie.Need-fresh-refusal-requires
 fresh-refusal-requires c κs = search needs
 
--- src/lib.rt:26:9
 returns : tie.Need-returns
 unfolding freshened
 returns c = record { number = c .before .fresh-refusal .ensures; tasks = rw (← c .before .fresh-refusal .ensures, ne-eqb _ 0 (c .if1 .taken)); promises = rw (← c .before .fresh-refusal .ensures, ne-eqb _ 0 (c .if1 .taken)) }
 
--- src/lib.rt:28:25
 unused-requires : tie.Need-unused-requires
 unused-requires c κs = search needs
 
--- src/lib.rt:28:5
 fill-requires : tie.Need-fill-requires
 fill-requires c κs = search needs
 
--- src/lib.rt:29:27
 ready-requires : tie.Need-ready-requires
 ready-requires c κs = search needs
 
--- src/lib.rt:29:5
 put-requires : tie.Need-put-requires
 put-requires c κs = search needs
 
--- src/lib.rt:30:28
 unmade-requires : tie.Need-unmade-requires
 unmade-requires c κs = search needs
 
--- src/lib.rt:30:5
 fill-requires-2 : tie.Need-fill-requires-2
 fill-requires-2 c κs = search needs
 
--- src/lib.rt:21:1
 same-length : tie.Need-same-length
 same-length c = search needs
 
--- src/lib.rt:21:1
 same-length-2 : tie.Need-same-length-2
 same-length-2 c = search needs
 
--- src/lib.rt:21:1
 returns-2 : tie.Need-returns-2
 unfolding freshened
 returns-2 c =

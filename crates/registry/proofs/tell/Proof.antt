@@ -1,198 +1,149 @@
 use mathlib.Core.Path.{refl}
 use Rattle.rules.specs.Answers.{numberOf, valuesOf}
 use Rattle.registry.specs.Exports.{answerWords}
-use native.Mathlib.Omega.{arith}
-use Rattle.words.proofs.Tests.{tests}
 use borrow.Author.Needs.{needs}
 use Rattle.registry.proofs.tell.Statement.{statement}
 use Rattle.registry.proofs.tell.Tie as tie
-use Rattle.registry.proofs.tell.Reads as reads
-use Rattle.registry.proofs.tell.Lts as lts
-use Rattle.registry.proofs.write_words.Reads as write-words-reads
 
--- src/lib.rt:38:25
 enum-told : tie.Need-enum-told
 enum-told c = search needs
 
--- src/lib.rt:38:13
 write-words-requires : tie.Need-write-words-requires
 write-words-requires c κs = search needs
 
--- src/lib.rt:39:13
 same-length : tie.Need-same-length
 same-length c = search needs
 
--- src/lib.rt:39:13
 returns : tie.Need-returns
 unfolding numberOf answerWords valuesOf
 returns c = rw (c .before .before .before .before .enum-told .given .1) (refl, c .before .before .write-words .ensures)
 
--- src/lib.rt:42:25
 enum-told-2 : tie.Need-enum-told-2
 enum-told-2 c = search needs
 
--- src/lib.rt:42:13
 write-words-requires-2 : tie.Need-write-words-requires-2
 write-words-requires-2 c κs = search needs
 
--- src/lib.rt:43:13
 same-length-2 : tie.Need-same-length-2
 same-length-2 c = search needs
 
--- src/lib.rt:43:13
 returns-2 : tie.Need-returns-2
 unfolding numberOf answerWords valuesOf
 returns-2 c = rw (c .before .before .before .before .enum-told2 .given .1) (refl, c .before .before .write-words2 .ensures)
 
--- src/lib.rt:45:21
 enum-known-a : tie.Need-enum-known-a
 enum-known-a c = search needs
 
--- src/lib.rt:46:13
 write-words-requires-3 : tie.Need-write-words-requires-3
 write-words-requires-3 c κs = search needs
 
--- src/lib.rt:47:13
 same-length-3 : tie.Need-same-length-3
 same-length-3 c = search needs
 
--- src/lib.rt:47:13
 returns-3 : tie.Need-returns-3
 unfolding numberOf answerWords valuesOf
 returns-3 c = rw (c .before .before .before .before .before .a .given .1) (refl, c .before .before .write-words3 .ensures)
 
--- src/lib.rt:50:25
 enum-told-3 : tie.Need-enum-told-3
 enum-told-3 c = search needs
 
--- src/lib.rt:50:13
 write-words-requires-4 : tie.Need-write-words-requires-4
 write-words-requires-4 c κs = search needs
 
--- src/lib.rt:51:13
 same-length-4 : tie.Need-same-length-4
 same-length-4 c = search needs
 
--- src/lib.rt:51:13
 returns-4 : tie.Need-returns-4
 unfolding numberOf answerWords valuesOf
 returns-4 c = rw (c .before .before .before .before .enum-told3 .given .1) (refl, c .before .before .write-words4 .ensures)
 
--- src/lib.rt:53:24
 enum-known-a-2 : tie.Need-enum-known-a-2
 enum-known-a-2 c = search needs
 
--- src/lib.rt:54:13
 write-words-requires-5 : tie.Need-write-words-requires-5
 write-words-requires-5 c κs = search needs
 
--- src/lib.rt:55:13
 same-length-5 : tie.Need-same-length-5
 same-length-5 c = search needs
 
--- src/lib.rt:55:13
 returns-5 : tie.Need-returns-5
 unfolding numberOf answerWords valuesOf
 returns-5 c = rw (c .before .before .before .before .before .a2 .given .1) (refl, c .before .before .write-words5 .ensures)
 
--- src/lib.rt:57:23
 enum-known-a-3 : tie.Need-enum-known-a-3
 enum-known-a-3 c = search needs
 
--- src/lib.rt:58:13
 write-words-requires-6 : tie.Need-write-words-requires-6
 write-words-requires-6 c κs = search needs
 
--- src/lib.rt:59:13
 same-length-6 : tie.Need-same-length-6
 same-length-6 c = search needs
 
--- src/lib.rt:59:13
 returns-6 : tie.Need-returns-6
 unfolding numberOf answerWords valuesOf
 returns-6 c = rw (c .before .before .before .before .before .a3 .given .1) (refl, c .before .before .write-words6 .ensures)
 
--- src/lib.rt:61:23
 enum-known-a-4 : tie.Need-enum-known-a-4
 enum-known-a-4 c = search needs
 
--- src/lib.rt:62:13
 write-words-requires-7 : tie.Need-write-words-requires-7
 write-words-requires-7 c κs = search needs
 
--- src/lib.rt:63:13
 same-length-7 : tie.Need-same-length-7
 same-length-7 c = search needs
 
--- src/lib.rt:63:13
 returns-7 : tie.Need-returns-7
 unfolding numberOf answerWords valuesOf
 returns-7 c = rw (c .before .before .before .before .before .a4 .given .1) (refl, c .before .before .write-words7 .ensures)
 
--- src/lib.rt:66:25
 enum-told-4 : tie.Need-enum-told-4
 enum-told-4 c = search needs
 
--- src/lib.rt:66:13
 write-words-requires-8 : tie.Need-write-words-requires-8
 write-words-requires-8 c κs = search needs
 
--- src/lib.rt:67:13
 same-length-8 : tie.Need-same-length-8
 same-length-8 c = search needs
 
--- src/lib.rt:67:13
 returns-8 : tie.Need-returns-8
 unfolding numberOf answerWords valuesOf
 returns-8 c = rw (c .before .before .before .before .enum-told4 .given .1) (refl, c .before .before .write-words8 .ensures)
 
--- src/lib.rt:69:25
 enum-known-a-5 : tie.Need-enum-known-a-5
 enum-known-a-5 c = search needs
 
--- src/lib.rt:70:13
 write-words-requires-9 : tie.Need-write-words-requires-9
 write-words-requires-9 c κs = search needs
 
--- src/lib.rt:71:13
 same-length-9 : tie.Need-same-length-9
 same-length-9 c = search needs
 
--- src/lib.rt:71:13
 returns-9 : tie.Need-returns-9
 unfolding numberOf answerWords valuesOf
 returns-9 c = rw (c .before .before .before .before .before .a5 .given .1) (refl, c .before .before .write-words9 .ensures)
 
--- src/lib.rt:73:25
 enum-known-a-6 : tie.Need-enum-known-a-6
 enum-known-a-6 c = search needs
 
--- src/lib.rt:74:13
 write-words-requires-10 : tie.Need-write-words-requires-10
 write-words-requires-10 c κs = search needs
 
--- src/lib.rt:75:13
 same-length-10 : tie.Need-same-length-10
 same-length-10 c = search needs
 
--- src/lib.rt:75:13
 returns-10 : tie.Need-returns-10
 unfolding numberOf answerWords valuesOf
 returns-10 c = rw (c .before .before .before .before .before .a6 .given .1) (refl, c .before .before .write-words10 .ensures)
 
--- src/lib.rt:77:29
 enum-known-a-7 : tie.Need-enum-known-a-7
 enum-known-a-7 c = search needs
 
--- src/lib.rt:78:13
 write-words-requires-11 : tie.Need-write-words-requires-11
 write-words-requires-11 c κs = search needs
 
--- src/lib.rt:79:13
 same-length-11 : tie.Need-same-length-11
 same-length-11 c = search needs
 
--- src/lib.rt:79:13
 returns-11 : tie.Need-returns-11
 unfolding numberOf answerWords valuesOf
 returns-11 c = rw (c .before .before .before .before .before .a7 .given .1) (refl, c .before .before .write-words11 .ensures)

@@ -1,64 +1,46 @@
 use mathlib.Core.Path.{refl}
 use Rattle.sessions.proofs.SessionLaws.{inSession-open, does-unopened, does-open}
 use native.Mathlib.Omega.{arith}
-use Rattle.words.proofs.Tests.{tests}
 use borrow.Author.Needs.{needs}
 use Rattle.sessions.proofs.act.Statement.{statement}
 use Rattle.sessions.proofs.act.Tie as tie
-use Rattle.sessions.proofs.act.Reads as reads
-use Rattle.sessions.proofs.act.Lts as lts
-use Rattle.sessions.proofs.in_part.Reads as in-part-reads
-use Rattle.sessions.proofs.unopened.Reads as unopened-reads
 
--- src/lib.rt:163:45
 enum-told : tie.Need-enum-told
 enum-told c = search needs
 
--- src/lib.rt:163:30
 unopened-requires : tie.Need-unopened-requires
 unopened-requires c κs = search needs
 
--- src/lib.rt:164:23
 enum-known-session : tie.Need-enum-known-session
 enum-known-session c = search needs
 
--- src/lib.rt:168:17
 cast-in-part : tie.Need-cast-in-part
 cast-in-part c = search needs
 
--- src/lib.rt:169:17
 cast-in-part-2 : tie.Need-cast-in-part-2
 cast-in-part-2 c = search needs
 
--- src/lib.rt:165:17
 in-part-requires : tie.Need-in-part-requires
 in-part-requires c κs = let g = c .before .before .before .before .session .given in let h = inSession-open (g .0 .0) (g .0 .1 .0) (rw (g .1) at (c .before .before .before .before .before .before .before .before .before .before .pre .1)) in (c .before .before .before .before .before .before .before .before .before .before .pre .0, omega (arith, h .0, c .before .before .before .before .before .before .before .before .before .before .pre .2), omega (arith, h .1, c .before .before .before .before .before .before .before .before .before .before .pre .3))
 
--- src/lib.rt:151:1
 same-length : tie.Need-same-length
 same-length c = search needs
 
--- src/lib.rt:151:1
 same-length-2 : tie.Need-same-length-2
 same-length-2 c = search needs
 
--- src/lib.rt:151:1
 returns : tie.Need-returns
 returns c = let a = c .before .before .before .before .before .before .before .before .before .before .before .before .before .args in rw (c .before .before .before .before .before .before .before .enum-told .given .1) (does-unopened (a .form) _ (a .tasks .now) (a .promises .now) (a .report .now) _ (c .before .before .before .before .unopened .ensures))
 
--- src/lib.rt:151:1
 same-length-3 : tie.Need-same-length-3
 same-length-3 c = search needs
 
--- src/lib.rt:151:1
 same-length-4 : tie.Need-same-length-4
 same-length-4 c = search needs
 
--- src/lib.rt:151:1
 same-length-5 : tie.Need-same-length-5
 same-length-5 c = search needs
 
--- src/lib.rt:151:1
 returns-2 : tie.Need-returns-2
 returns-2 c = let a = c .before .before .before .before .before .before .before .before .before .before .before .before .before .before .before .before .before .args in rw (c .before .before .before .before .before .before .before .before .before .before .before .session .given .1) (does-open (a .form) _ (a .tasks .now) (a .promises .now) (a .report .now) _ _ _ (c .before .before .before .before .before .before .in-part .ensures) refl refl)
 

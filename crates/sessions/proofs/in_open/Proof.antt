@@ -3,18 +3,9 @@ use native.Mathlib.Nat.{sub-zero}
 use Rattle.words.proofs.ListLaws.{over-none}
 use Rattle.forms.specs.Judging.{countIn}
 use Rattle.sessions.specs.Sessions.{openOutcome}
-use native.Mathlib.Omega.{arith}
-use Rattle.words.proofs.Tests.{tests}
 use borrow.Author.Needs.{needs}
 use Rattle.sessions.proofs.in_open.Statement.{statement}
 use Rattle.sessions.proofs.in_open.Tie as tie
-use Rattle.sessions.proofs.in_open.Reads as reads
-use Rattle.sessions.proofs.in_open.Lts as lts
-use Rattle.ending.proofs.step_end.Reads as step-end-reads
-use Rattle.getting.proofs.step_get.Reads as step-get-reads
-use Rattle.making.proofs.step_new.Reads as step-new-reads
-use Rattle.setting.proofs.step_set.Reads as step-set-reads
-use Rattle.starting.proofs.step_async.Reads as step-async-reads
 
 enum-told : tie.Need-enum-told
 enum-told c = search needs

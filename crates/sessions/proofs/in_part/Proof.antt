@@ -1,55 +1,39 @@
 use native.Mathlib.Nat.{sub-zero}
 use Rattle.sessions.proofs.SessionLaws.{inPart-of}
-use native.Mathlib.Omega.{arith}
-use Rattle.words.proofs.Tests.{tests}
 use borrow.Author.Needs.{needs}
 use Rattle.sessions.proofs.in_part.Statement.{statement}
 use Rattle.sessions.proofs.in_part.Tie as tie
-use Rattle.sessions.proofs.in_part.Reads as reads
-use Rattle.sessions.proofs.in_part.Lts as lts
-use Rattle.sessions.proofs.in_open.Reads as in-open-reads
 
--- src/lib.rt:137:9
 sub-in-open : tie.Need-sub-in-open
 sub-in-open c = search needs
 
--- src/lib.rt:137:9
 part-in-open-start : tie.Need-part-in-open-start
 part-in-open-start c = search needs
 
--- src/lib.rt:137:9
 part-in-open-end : tie.Need-part-in-open-end
 part-in-open-end c = search needs
 
--- src/lib.rt:138:9
 sub-in-open-2 : tie.Need-sub-in-open-2
 sub-in-open-2 c = search needs
 
--- src/lib.rt:138:9
 part-in-open-start-2 : tie.Need-part-in-open-start-2
 part-in-open-start-2 c = search needs
 
--- src/lib.rt:138:9
 part-in-open-end-2 : tie.Need-part-in-open-end-2
 part-in-open-end-2 c = search needs
 
--- src/lib.rt:134:5
 in-open-requires : tie.Need-in-open-requires
 in-open-requires c κs = search needs
 
--- src/lib.rt:122:1
 same-length : tie.Need-same-length
 same-length c = search needs
 
--- src/lib.rt:122:1
 same-length-2 : tie.Need-same-length-2
 same-length-2 c = search needs
 
--- src/lib.rt:122:1
 same-length-3 : tie.Need-same-length-3
 same-length-3 c = search needs
 
--- src/lib.rt:122:1
 returns : tie.Need-returns
 returns c =
     let a = c .before .before .before .before .before .before .before .before .before .before .before .before .before .before .args in

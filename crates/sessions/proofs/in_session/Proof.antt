@@ -1,39 +1,27 @@
 use Rattle.sessions.specs.Sessions.{inSession}
-use native.Mathlib.Omega.{arith}
-use Rattle.words.proofs.Tests.{tests}
 use borrow.Author.Needs.{needs}
 use Rattle.sessions.proofs.in_session.Statement.{statement}
 use Rattle.sessions.proofs.in_session.Tie as tie
-use Rattle.sessions.proofs.in_session.Reads as reads
-use Rattle.sessions.proofs.in_session.Lts as lts
-use Rattle.words.proofs.sizes_in_bounds.Reads as sizes-in-bounds-reads
 
--- src/lib.rt:47:30
 enum-told : tie.Need-enum-told
 enum-told c = search needs
 
--- src/lib.rt:48:23
 enum-known-session : tie.Need-enum-known-session
 enum-known-session c = search needs
 
--- src/lib.rt:48:48
 cast-sizes-in-bounds : tie.Need-cast-sizes-in-bounds
 cast-sizes-in-bounds c = search needs
 
--- src/lib.rt:48:60
 cast-sizes-in-bounds-2 : tie.Need-cast-sizes-in-bounds-2
 cast-sizes-in-bounds-2 c = search needs
 
--- src/lib.rt:48:32
 sizes-in-bounds-requires : tie.Need-sizes-in-bounds-requires
 sizes-in-bounds-requires c κs = search needs
 
--- src/lib.rt:43:1
 returns : tie.Need-returns
 unfolding inSession
 returns c = rw (c .enum-told .given .1)
 
--- src/lib.rt:43:1
 returns-2 : tie.Need-returns-2
 unfolding inSession
 returns-2 c = rw (c .before .before .session .given .1) (c .sizes-in-bounds .ensures)

@@ -4,60 +4,43 @@ use Rattle.rules.specs.declared.Answer.the-variants.{Refused}
 use Rattle.sessions.specs.declared.Session.the-variants.{Unopened}
 use Rattle.sessions.proofs.SessionLaws.{freshRefusal-none, does-refused, does-opened, openDeed-refused}
 use native.Mathlib.Omega.{arith}
-use Rattle.words.proofs.Tests.{tests}
 use borrow.Author.Needs.{needs}
 use Rattle.sessions.proofs.open_session.Statement.{statement}
 use Rattle.sessions.proofs.open_session.Tie as tie
-use Rattle.sessions.proofs.open_session.Reads as reads
-use Rattle.sessions.proofs.open_session.Lts as lts
-use Rattle.opening.proofs.fresh.Reads as fresh-reads
-use Rattle.opening.proofs.fresh_refusal.Reads as fresh-refusal-reads
 
--- src/lib.rt:86:9
 fresh-refusal-requires : tie.Need-fresh-refusal-requires
 fresh-refusal-requires c κs = search needs
 
--- src/lib.rt:88:9
 returns : tie.Need-returns
 returns c = let a = c .before .before .before .before .args in does-refused (a .tasks .now) (a .promises .now) Unopened (Refused (c .before .fresh-refusal .result)) (openDeed-refused (a .tasks .now) (a .promises .now) (a .t) (a .p) _ (c .before .fresh-refusal .ensures) (c .if1 .taken)) refl refl
 
--- src/lib.rt:93:11
 sub-fresh : tie.Need-sub-fresh
 sub-fresh c = search needs
 
--- src/lib.rt:93:11
 part-fresh-start : tie.Need-part-fresh-start
 part-fresh-start c = search needs
 
--- src/lib.rt:93:11
 part-fresh-end : tie.Need-part-fresh-end
 part-fresh-end c = let a = c .before .before .before .before .args in let h = freshRefusal-none (a .t) (a .p) (sym (c .before .fresh-refusal .ensures) ∙ c .if1 .left) in omega (arith, h .0, h .1, c .before .before .before .before .pre .0, c .before .before .before .before .pre .1)
 
--- src/lib.rt:93:29
 sub-fresh-2 : tie.Need-sub-fresh-2
 sub-fresh-2 c = search needs
 
--- src/lib.rt:93:29
 part-fresh-start-2 : tie.Need-part-fresh-start-2
 part-fresh-start-2 c = search needs
 
--- src/lib.rt:93:29
 part-fresh-end-2 : tie.Need-part-fresh-end-2
 part-fresh-end-2 c = let a = c .before .before .before .before .before .args in let h = freshRefusal-none (a .t) (a .p) (sym (c .before .before .fresh-refusal .ensures) ∙ c .before .if1 .left) in omega (arith, h .0, h .1, c .before .before .before .before .before .pre .0, c .before .before .before .before .before .pre .1)
 
--- src/lib.rt:93:5
 fresh-requires : tie.Need-fresh-requires
 fresh-requires c κs = search needs
 
--- src/lib.rt:80:1
 same-length : tie.Need-same-length
 same-length c = search needs
 
--- src/lib.rt:80:1
 same-length-2 : tie.Need-same-length-2
 same-length-2 c = search needs
 
--- src/lib.rt:80:1
 returns-2 : tie.Need-returns-2
 returns-2 c =
     let a = c .before .before .before .before .before .before .before .before .before .before .before .args in

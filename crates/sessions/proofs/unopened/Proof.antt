@@ -3,15 +3,9 @@ use Rattle.rules.specs.declared.Answer.the-variants.{Refused}
 use Rattle.sessions.specs.declared.Session.the-variants.{Unopened}
 use Rattle.sessions.specs.Sessions.{refusedAtColumn, unopenedDeed}
 use Rattle.sessions.proofs.SessionLaws.{does-refused}
-use native.Mathlib.Omega.{arith}
-use Rattle.words.proofs.Tests.{tests}
 use borrow.Author.Needs.{needs}
 use Rattle.sessions.proofs.unopened.Statement.{statement}
 use Rattle.sessions.proofs.unopened.Tie as tie
-use Rattle.sessions.proofs.unopened.Reads as reads
-use Rattle.sessions.proofs.unopened.Lts as lts
-use Rattle.sessions.proofs.open_session.Reads as open-session-reads
-use Rattle.sessions.proofs.refused_unopened.Reads as refused-unopened-reads
 
 enum-known-form : tie.Need-enum-known-form
 enum-known-form c = search needs

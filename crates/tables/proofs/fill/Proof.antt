@@ -7,8 +7,6 @@ use native.Mathlib.Omega.{arith}
 use Rattle.words.proofs.Tests.{tests}
 use Rattle.tables.proofs.fill.Statement.{statement}
 use Rattle.tables.proofs.fill.Tie as tie
-use Rattle.tables.proofs.fill.Reads as reads
-use Rattle.tables.proofs.fill.Lts as lts
 
 abbrev Inv-loop : tie.InvT-loop
 Inv-loop table₀ word i₀ table i = Rewritten (filled word) table₀ table i
@@ -16,35 +14,27 @@ Inv-loop table₀ word i₀ table i = Rewritten (filled word) table₀ table i
 abbrev μ-loop : tie.MeasureT-loop
 μ-loop table₀ word i₀ table i = length table₀ - i
 
--- src/lib.rt:81:5
 loop-holds : tie.Need-loop-holds Inv-loop μ-loop
 loop-holds c = rewritten-start (filled _) _
 
--- src/lib.rt:82:9
 mul-table : tie.Need-mul-table Inv-loop μ-loop
 mul-table c = search (needs, tests)
 
--- src/lib.rt:82:9
 slice-write-table : tie.Need-slice-write-table Inv-loop μ-loop
 slice-write-table c = omega arith
 
--- src/lib.rt:83:9
 add-i : tie.Need-add-i Inv-loop μ-loop
 add-i c = search (needs, tests)
 
--- src/lib.rt:81:5
 loop-less : tie.Need-loop-less Inv-loop μ-loop
 loop-less c = search (needs, tests)
 
--- src/lib.rt:81:5
 loop-again : tie.Need-loop-again Inv-loop μ-loop
 loop-again c = rewritten-turn (filled _) (c .before .loop .inv) (omega (arith, c .before .loop .inv .same)) refl
 
--- src/lib.rt:77:1
 same-length : tie.Need-same-length Inv-loop μ-loop
 same-length c = c .before .loop .inv .same
 
--- src/lib.rt:77:1
 returns : tie.Need-returns Inv-loop μ-loop
 returns c = rewritten-end (filled _) (c .before .loop .inv) (omega (arith, c .before .loop .inv .same)) ∙ map-filled _ (c .before .before .args .table .now)
 

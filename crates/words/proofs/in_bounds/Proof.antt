@@ -2,32 +2,23 @@ use mathlib.Core.Path.{sym, _∙_}
 use Rattle.words.specs.Words.{small, inBounds}
 use Rattle.words.proofs.WordLaws.{sizesInBounds-true}
 use native.Mathlib.Omega.{arith}
-use Rattle.words.proofs.Tests.{tests}
 use borrow.Author.Needs.{needs}
 use Rattle.words.proofs.in_bounds.Statement.{statement}
 use Rattle.words.proofs.in_bounds.Tie as tie
-use Rattle.words.proofs.in_bounds.Reads as reads
-use Rattle.words.proofs.in_bounds.Lts as lts
-use Rattle.words.proofs.sizes_in_bounds.Reads as sizes-in-bounds-reads
 
--- src/lib.rt:116:8
 sizes-in-bounds-requires : tie.Need-sizes-in-bounds-requires
 sizes-in-bounds-requires c κs = search needs
 
--- src/lib.rt:117:27
 mul-result : tie.Need-mul-result
 mul-result c = let w = sizesInBounds-true small _ _ (sym (c .before .sizes-in-bounds .ensures) ∙ c .if1 .taken) in omega (arith, w .tasks)
 
--- src/lib.rt:117:16
 add-result : tie.Need-add-result
 add-result c = let w = sizesInBounds-true small _ _ (sym (c .before .sizes-in-bounds .ensures) ∙ c .if1 .taken) in omega (arith, w .tasks, w .promises)
 
--- src/lib.rt:117:9
 returns : tie.Need-returns
 unfolding inBounds
 returns c = rw (← c .before .sizes-in-bounds .ensures, c .if1 .taken)
 
--- src/lib.rt:113:1
 returns-2 : tie.Need-returns-2
 unfolding inBounds
 returns-2 c = rw (← c .before .sizes-in-bounds .ensures, c .if1 .left)

@@ -1,7 +1,6 @@
 -- `play::same_words` meets its contract: each turn goes on in the words.
 -- Assumes nothing.
 use Prim.Native.Nat.{_-_, _≤_}
-use mathlib.Core.Path.{_≡_}
 use lib.ListN.{length}
 use borrow.Author.Needs.{needs}
 use Rattle.edges.proofs.play.same_words.Statement.{statement}

@@ -1,15 +1,7 @@
-use Prim.Native.Nat.{_+_, _-_, _≤_, _<_}
-use mathlib.Core.Path.{_≡_}
-use lib.ListN.{length}
+use Prim.Native.Nat.{_-_, _≤_}
 use borrow.Author.Needs.{needs}
-use native.Mathlib.Omega.{arith}
 use Rattle.edges.proofs.show.run.Statement.{statement}
 use Rattle.edges.proofs.show.run.Tie as tie
-use Rattle.edges.proofs.show.run.Reads as reads
-use Rattle.edges.proofs.show.run.Lts as lts
-use Rattle.edges.proofs.show.number.Reads as number-reads
-use Rattle.edges.proofs.show.text.Reads as text-reads
-use Rattle.io.proofs.print_decimal.Reads as print-decimal-reads
 
 abbrev Inv-loop : tie.InvT-loop
 Inv-loop w n i₀ i = i ≤ n
@@ -17,47 +9,36 @@ Inv-loop w n i₀ i = i ≤ n
 abbrev μ-loop : tie.MeasureT-loop
 μ-loop w n i₀ i = n - i
 
--- src/show.rt:110:9
 loop-holds : tie.Need-loop-holds Inv-loop μ-loop
 loop-holds c = search needs
 
--- src/show.rt:111:13
 number-requires : tie.Need-number-requires Inv-loop μ-loop
 number-requires c κs = search needs
 
--- src/show.rt:112:13
 add-i : tie.Need-add-i Inv-loop μ-loop
 add-i c = search needs
 
--- src/show.rt:110:9
 loop-less : tie.Need-loop-less Inv-loop μ-loop
 loop-less c = search needs
 
--- src/show.rt:110:9
 loop-again : tie.Need-loop-again Inv-loop μ-loop
 loop-again c = search needs
 
--- src/show.rt:114:9
 returns : tie.Need-returns Inv-loop μ-loop
 returns c = search needs
 
--- src/show.rt:116:5
 number-requires-2 : tie.Need-number-requires-2 Inv-loop μ-loop
 number-requires-2 c κs = search needs
 
--- src/show.rt:117:10
 slice-aggregate-text : tie.Need-slice-aggregate-text Inv-loop μ-loop
 slice-aggregate-text c = search needs
 
--- src/show.rt:117:5
 text-requires : tie.Need-text-requires Inv-loop μ-loop
 text-requires c κs = search needs
 
--- src/show.rt:118:5
 print-decimal-requires : tie.Need-print-decimal-requires Inv-loop μ-loop
 print-decimal-requires c κs = search needs
 
--- src/show.rt:107:1
 returns-2 : tie.Need-returns-2 Inv-loop μ-loop
 returns-2 c = search needs
 
