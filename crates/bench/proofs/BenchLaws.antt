@@ -1,14 +1,17 @@
 -- What the program's own numbers rest on. Assumes nothing.
-use Prim.Native.Nat.{ℕ, _+_, _-_, _≤_}
-use mathlib.Core.List.{List}
-use mathlib.Core.Path.{_≡_, ap, subst, _∙_}
+use Prim.Native.Nat.{ℕ, _+_, _-_, _≤_, _<_}
+use mathlib.Core.List.{List, []}
+use mathlib.Core.Bool.{Bool, true, false, not, _&&_}
+use mathlib.Core.Path.{_≡_, refl, ap, sym, subst, _∙_}
 use native.Mathlib.Omega.{arith}
-use lib.ListN.{length, take, drop, length-drop}
+use lib.ListN.{length, take, drop, length-drop, drop-of-length-le}
 use Rattle.buffers.proofs.BufferLaws.{rest-lent}
 use Rattle.serving.specs.declared.Served.{Served}
-use Rattle.serving.specs.Serving.{turnOf, Serves}
+use Rattle.serving.specs.Serving.{Turn, turnOf, Serves}
+use Rattle.serving.specs.Input.{Desk, feed, Takes}
+use Rattle.serving.proofs.Theorems.{serve-takes}
 use Rattle.bench.specs.declared.State.{State}
-use Rattle.bench.specs.Carrying.{Carries}
+use Rattle.bench.specs.Carrying.{Carries, At, Fed}
 
 -- what is written after what an array holds already, into the rest of it, which was lent, ends within the array
 pub added-within : (x : List ℕ) (used bytes : ℕ) → bytes ≤ length (take (length x - used) (drop used x)) → used ≤ length x
@@ -19,21 +22,97 @@ added-within x used bytes h l = omega (arith, h, ap length (rest-lent x used), l
 pub carried : (b : List ℕ) (was s : State) (x ts ps rs out : List ℕ) {q : Served} {x′ ts′ ps′ rs′ out′ : List ℕ} {r : State}
     → s .from ≡ was .from → s .have ≡ was .have → s .lines ≡ was .lines → s .session ≡ was .session
     → Serves (turnOf b (s .from) x (s .have) (s .lines) (s .session) ts ps rs (take (length out - s .used) (drop (s .used) out))) q x′ ts′ ps′ rs′ out′
-    → r .from ≡ q .next → r .have ≡ q .have → r .lines ≡ q .lines → r .session ≡ q .session → r .used ≡ s .used + q .bytes
-    → (n : ℕ) × Carries (turnOf b (was .from) x (was .have) (was .lines) (was .session) ts ps rs (drop n out)) n r x′ ts′ ps′ rs′
-carried b was s x ts ps rs out {q} {x′} {ts′} {ps′} {rs′} {out′} e₁ e₂ e₃ e₄ v f g h i u =
+    → r .from ≡ q .next → r .have ≡ q .have → r .lines ≡ q .lines → r .session ≡ q .session → r .used ≡ s .used + q .bytes → (r .going ≡ true → q .going ≡ true)
+    → s .used + 2048 ≤ length out
+    → (n : ℕ) × (n + 2048 ≤ length out) × Carries (turnOf b (was .from) x (was .have) (was .lines) (was .session) ts ps rs (drop n out)) n r x′ ts′ ps′ rs′
+carried b was s x ts ps rs out {q} {x′} {ts′} {ps′} {rs′} {out′} e₁ e₂ e₃ e₄ v f g h i u k l =
     let w = subst (λ (o : List ℕ). Serves (turnOf b (s .from) x (s .have) (s .lines) (s .session) ts ps rs o) q x′ ts′ ps′ rs′ out′) (rest-lent out (s .used)) v in (
       s .used,
+      l,
       rw (← e₁, ← e₂, ← e₃, ← e₄)
           (record {
             from = f ∙ w .next;
             have = g ∙ w .have;
             lines = h ∙ w .lines;
             session = i ∙ w .session;
-            used = u ∙ ap (λ (k : ℕ). s .used + k) (w .bytes);
+            used = u ∙ ap (λ (m : ℕ). s .used + m) (w .bytes);
+            going = λ e. sym (w .going) ∙ k e;
             line = w .line;
             tasks = w .tasks;
             promises = w .promises;
             report = w .report;
           }),
     )
+
+-- of two flags joined, the second
+pub joined-second : (a b : Bool) → (a && b) ≡ true → b ≡ true
+joined-second true b e = e
+joined-second false b e = let z : false ≡ true = e in let y : _≡_ {A = ℕ} 0 1 = cc in absurd (omega arith)
+
+-- what is not stopped goes on
+pub goes-on : (b : Bool) → not b ≡ false → b ≡ true
+goes-on true e = refl
+goes-on false e = sym e
+
+-- and nothing does both
+pub stops-or-goes : {A : Type 0} (b : Bool) → b ≡ true → not b ≡ true → A
+stops-or-goes true g e = let y : _≡_ {A = ℕ} 0 1 = cc in absurd (omega arith)
+stops-or-goes false g e = let y : _≡_ {A = ℕ} 0 1 = cc in absurd (omega arith)
+
+-- ---- the lines of a block
+
+-- another state where the desk's part is the same
+pub at-same : (d : Desk) (was s : State) (x ts ps rs : List ℕ) → s .have ≡ was .have → s .lines ≡ was .lines → s .session ≡ was .session → s .going ≡ was .going
+    → At d was x ts ps rs → At d s x ts ps rs
+at-same d was s x ts ps rs e₁ e₂ e₃ e₄ h = record {
+  buffer = rw e₁ (h .buffer);
+  lines = h .lines ∙ sym e₂;
+  session = h .session ∙ sym e₃;
+  tasks = h .tasks;
+  promises = h .promises;
+  report = h .report;
+  going = λ g. h .going (sym e₄ ∙ g);
+}
+
+-- nothing is taken yet at the start of the block
+pub fed-none : (d : Desk) (b : List ℕ) (s : State) (x ts ps rs : List ℕ) → s .from ≡ 0 → At d s x ts ps rs → Fed d b 0 s x ts ps rs
+fed-none d b s x ts ps rs e h = record { desk = d; bytes = ap (λ (i : ℕ). feed d (drop i b)) (sym e); at = h }
+
+-- what a turn takes and carries on
+taken : (d d′ : Desk) (b : List ℕ) (from : ℕ) (t : Turn) (n : ℕ) (r : State) (x ts ps rs : List ℕ) → Takes d b from t d′ → Carries t n r x ts ps rs → Fed d b from r x ts ps rs
+taken d d′ b from t n r x ts ps rs k c = record {
+  desk = d′;
+  bytes = k .bytes ∙ ap (λ (i : ℕ). feed d′ (drop i b)) (sym (c .from));
+  at = record {
+    buffer = rw (c .line, c .have) (k .buffer);
+    lines = k .lines ∙ sym (c .lines);
+    session = k .session ∙ sym (c .session);
+    tasks = k .tasks ∙ sym (c .tasks);
+    promises = k .promises ∙ sym (c .promises);
+    report = k .report ∙ sym (c .report);
+    going = λ g. k .going ∙ c .going g;
+  };
+}
+
+module _ (b : List ℕ) (was r : State) (x ts ps rs x′ ts′ ps′ rs′ out : List ℕ) where
+  -- one line more, from where the desk d is
+  pub fed-line : (d : Desk) → was .from < length b → was .going ≡ true
+      → ((n : ℕ) × (n + 2048 ≤ length out) × Carries (turnOf b (was .from) x (was .have) (was .lines) (was .session) ts ps rs (drop n out)) n r x′ ts′ ps′ rs′)
+      → At d was x ts ps rs → Fed d b (was .from) r x′ ts′ ps′ rs′
+  fed-line d l g (n, m, c) h =
+      let t = serve-takes d b (was .from) x (was .have) (drop n out) (omega (arith, length-drop n out)) l (h .going g) (h .buffer) in
+      taken d (t .0) b (was .from) (turnOf b (was .from) x (was .have) (was .lines) (was .session) ts ps rs (drop n out)) n r x′ ts′ ps′ rs′ (rw (← h .lines, ← h .session, ← h .tasks, ← h .promises, ← h .report) (t .1)) c
+
+  -- one line more, after those that were taken
+  pub fed-more : (d : Desk) (i : ℕ) → was .from < length b → was .going ≡ true
+      → ((n : ℕ) × (n + 2048 ≤ length out) × Carries (turnOf b (was .from) x (was .have) (was .lines) (was .session) ts ps rs (drop n out)) n r x′ ts′ ps′ rs′)
+      → Fed d b i was x ts ps rs → Fed d b i r x′ ts′ ps′ rs′
+  fed-more d i l g c f = let t = fed-line (f .desk) l g c (f .at) in record { desk = t .desk; bytes = f .bytes ∙ t .bytes; at = t .at }
+
+-- A BLOCK THAT WAS TAKEN WHOLE: the program is where the desk is after the block's bytes
+pub fed-all : (d : Desk) (b : List ℕ) (r : State) (x ts ps rs : List ℕ) → r .from ≡ length b → Fed d b 0 r x ts ps rs → At (feed d b) r x ts ps rs
+unfolding feed
+fed-all d b r x ts ps rs e f = subst (λ (y : Desk). At y r x ts ps rs) (sym (f .bytes ∙ ap (λ (s : List ℕ). feed (f .desk) s) none)) (f .at)
+  where
+    none : drop (r .from) b ≡ []
+    none = let z : length b ≤ r .from = omega arith in drop-of-length-le b z

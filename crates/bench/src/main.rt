@@ -5,9 +5,11 @@
 use sessions::Session;
 ghost use mathlib.Core.Path.{_≡_};
 ghost use Prim.Native.Nat.{ℕ, _+_, _≤_, _<_};
+ghost use mathlib.Core.Bool.{true};
 ghost use lib.ListN.{length, drop};
 ghost use Rattle.serving.specs.Serving.{turnOf};
-ghost use Rattle.bench.specs.Carrying.{Carries};
+ghost use Rattle.serving.specs.Input.{Desk};
+ghost use Rattle.bench.specs.Carrying.{Carries, At, Fed};
 
 // Where the program is: the place in the block, how many bytes of the line that has begun were counted, how many lines were answered, the session value, how many
 // bytes wait in the output array, and whether the program goes on.
@@ -78,7 +80,7 @@ fn serve_line(
 ) -> State
     requires { ⌜ (was .from < length (now block)) × (was .used ≤ length (now out)) × (length (now out) ≡ 32768) ⌝ }
     ensures { λ r. ⌜ (was .from < r .from) × (r .from ≤ length (now (block .entry))) × (r .used ≤ length (now (out .entry))) ⌝ }
-    ensures { λ r. ⌜ ((n : ℕ) × Carries (turnOf (now (block .entry)) (was .from) (now (line .entry)) (was .have) (was .lines) (was .session) (now (tasks .entry)) (now (promises .entry)) (now (report .entry)) (drop n (now (out .entry)))) n r (now (line .exit)) (now (tasks .exit)) (now (promises .exit)) (now (report .exit))) ⌝ }
+    ensures { λ r. ⌜ ((n : ℕ) × (n + 2048 ≤ length (now (out .entry))) × Carries (turnOf (now (block .entry)) (was .from) (now (line .entry)) (was .have) (was .lines) (was .session) (now (tasks .entry)) (now (promises .entry)) (now (report .entry)) (drop n (now (out .entry)))) n r (now (line .exit)) (now (tasks .exit)) (now (promises .exit)) (now (report .exit))) ⌝ }
 {
     let s = with_room(out, was);
     let used = s.used;
@@ -108,7 +110,7 @@ fn serve_line(
 
 // The same place in a new block: its start.
 fn at_start(s: State) -> State
-    ensures { λ r. ⌜ (r .from ≡ 0) × (r .used ≡ s .used) × (r .have ≡ s .have) × (r .lines ≡ s .lines) × (r .session ≡ s .session) ⌝ }
+    ensures { λ r. ⌜ (r .from ≡ 0) × (r .used ≡ s .used) × (r .have ≡ s .have) × (r .lines ≡ s .lines) × (r .session ≡ s .session) × (r .going ≡ s .going) ⌝ }
 {
     let session = s.session;
     State {
@@ -132,7 +134,8 @@ fn serve_block(
     was: State,
 ) -> State
     requires { ⌜ (was .used ≤ length (now out)) × (length (now out) ≡ 32768) ⌝ }
-    ensures { λ r. ⌜ r .used ≤ length (now (out .entry)) ⌝ }
+    ensures { λ r. ⌜ (r .used ≤ length (now (out .entry))) × (r .from ≤ length (now (block .entry))) × (r .going ≡ true → r .from ≡ length (now (block .entry))) ⌝ }
+    ensures { λ r. ⌜ ((d : Desk) → At d was (now (line .entry)) (now (tasks .entry)) (now (promises .entry)) (now (report .entry)) → Fed d (now (block .entry)) 0 r (now (line .exit)) (now (tasks .exit)) (now (promises .exit)) (now (report .exit))) ⌝ }
 {
     let mut s = at_start(was);
     while s.from < block.len() {
