@@ -1,46 +1,56 @@
 -- What the program's own numbers rest on. Assumes nothing.
-use Prim.Native.Nat.{ℕ, _+_, _-_, _≤_, _<_}
-use mathlib.Core.List.{List, []}
+use Prim.Native.Nat.{ℕ, zero, suc, _+_, _-_, _≤_, _<_}
+use mathlib.Core.List.{List, [], _∷_, _++_, append-assoc, append-nil}
 use mathlib.Core.Bool.{Bool, true, false, not, _&&_}
 use mathlib.Core.Path.{_≡_, refl, ap, sym, subst, _∙_}
 use native.Mathlib.Omega.{arith}
 use lib.ListN.{length, take, drop, length-drop, drop-of-length-le}
+use lib.Seq.{length-take-le}
+use borrow.Rule.Slice.PartMut.{putMid}
 use Rattle.buffers.proofs.BufferLaws.{rest-lent}
 use Rattle.serving.specs.declared.Served.{Served}
 use Rattle.serving.specs.Serving.{Turn, turnOf, Serves}
 use Rattle.serving.specs.Input.{Desk, feed, Takes}
 use Rattle.serving.proofs.Theorems.{serve-takes}
 use Rattle.bench.specs.declared.State.{State}
-use Rattle.bench.specs.Carrying.{Carries, At, Fed}
+use Rattle.bench.specs.Carrying.{Carries, Waiting, At, Fed}
 
 -- what is written after what an array holds already, into the rest of it, which was lent, ends within the array
 pub added-within : (x : List ℕ) (used bytes : ℕ) → bytes ≤ length (take (length x - used) (drop used x)) → used ≤ length x
     → used + bytes ≤ length x
 added-within x used bytes h l = omega (arith, h, ap length (rest-lent x used), length-drop used x)
 
+-- the rest, given back with p in it
+put-back : (x : List ℕ) (n : ℕ) (p : List ℕ) → putMid n (length x - n) x p ≡ take n x ++ p
+put-back x n p =
+    let z : drop (length x - n) (drop n x) ≡ [] = drop-of-length-le (drop n x) {i = length x - n} (rw length-drop (omega arith)) in
+    rw (z, append-nil)
+
 -- what was served into the rest of the output array is what the state carries on; `was` is the state before, and s the one with room for an answer
 pub carried : (b : List ℕ) (was s : State) (x ts ps rs out : List ℕ) {q : Served} {x′ ts′ ps′ rs′ out′ : List ℕ} {r : State}
     → s .from ≡ was .from → s .have ≡ was .have → s .lines ≡ was .lines → s .session ≡ was .session
     → Serves (turnOf b (s .from) x (s .have) (s .lines) (s .session) ts ps rs (take (length out - s .used) (drop (s .used) out))) q x′ ts′ ps′ rs′ out′
     → r .from ≡ q .next → r .have ≡ q .have → r .lines ≡ q .lines → r .session ≡ q .session → r .used ≡ s .used + q .bytes → (r .going ≡ true → q .going ≡ true)
-    → s .used + 2048 ≤ length out
-    → (n : ℕ) × (n + 2048 ≤ length out) × Carries (turnOf b (was .from) x (was .have) (was .lines) (was .session) ts ps rs (drop n out)) n r x′ ts′ ps′ rs′
-carried b was s x ts ps rs out {q} {x′} {ts′} {ps′} {rs′} {out′} e₁ e₂ e₃ e₄ v f g h i u k l =
+    → s .used + 2048 ≤ length out → (0 < s .used → s .used ≡ was .used)
+    → (n : ℕ) × (n + 2048 ≤ length out) × (0 < n → n ≡ was .used) × Carries (turnOf b (was .from) x (was .have) (was .lines) (was .session) ts ps rs (drop n out)) n out r x′ ts′ ps′ rs′ (putMid (s .used) (length out - s .used) out out′)
+carried b was s x ts ps rs out {q} {x′} {ts′} {ps′} {rs′} {out′} e₁ e₂ e₃ e₄ v f g h i u k l m =
     let w = subst (λ (o : List ℕ). Serves (turnOf b (s .from) x (s .have) (s .lines) (s .session) ts ps rs o) q x′ ts′ ps′ rs′ out′) (rest-lent out (s .used)) v in (
       s .used,
       l,
+      m,
       rw (← e₁, ← e₂, ← e₃, ← e₄)
           (record {
             from = f ∙ w .next;
             have = g ∙ w .have;
             lines = h ∙ w .lines;
             session = i ∙ w .session;
-            used = u ∙ ap (λ (m : ℕ). s .used + m) (w .bytes);
+            used = u ∙ ap (λ (j : ℕ). s .used + j) (w .bytes);
             going = λ e. sym (w .going) ∙ k e;
             line = w .line;
             tasks = w .tasks;
             promises = w .promises;
             report = w .report;
+            answer = put-back out (s .used) out′ ∙ ap (λ (y : List ℕ). take (s .used) out ++ y) (w .answer);
           }),
     )
 
@@ -59,12 +69,36 @@ pub stops-or-goes : {A : Type 0} (b : Bool) → b ≡ true → not b ≡ true �
 stops-or-goes true g e = let y : _≡_ {A = ℕ} 0 1 = cc in absurd (omega arith)
 stops-or-goes false g e = let y : _≡_ {A = ℕ} 0 1 = cc in absurd (omega arith)
 
+-- ---- what waits in the output array
+
+take-past : (s t : List ℕ) (k : ℕ) → take (length s + k) (s ++ t) ≡ s ++ take k t
+take-past [] t k = let e : 0 + k ≡ k = omega arith in rw e
+take-past (b ∷ s) t k = let e : suc (length s) + k ≡ suc (length s + k) = omega arith in rw e (ap (λ (r : List ℕ). b ∷ r) (take-past s t k))
+
+-- what waited still waits, or was put out
+waits-on : (s o : List ℕ) (k n : ℕ) → (0 < n → n ≡ k) → Waiting s k o → Waiting s n o
+waits-on s o k zero e w = record { gone = s; rest = sym (append-nil s) }
+waits-on s o k (suc n) e w = rw (e (omega arith)) w
+
+-- and what was written after it waits too
+waits-more : (s o u y : List ℕ) (n k : ℕ) → n ≤ length o → y ≡ take n o ++ u → Waiting s n o → Waiting (s ++ take k u) (n + k) y
+waits-more s o u y n k l e w = record {
+  gone = w .gone;
+  rest = ap (λ (r : List ℕ). r ++ take k u) (w .rest) ∙ append-assoc (w .gone) (take n o) (take k u) ∙ ap (λ (r : List ℕ). w .gone ++ r) (sym seam ∙ ap (λ (r : List ℕ). take (n + k) r) (sym e));
+}
+  where
+    size : length (take n o) ≡ n
+    size = length-take-le n o l
+
+    seam : take (n + k) (take n o ++ u) ≡ take n o ++ take k u
+    seam = ap (λ (i : ℕ). take (i + k) (take n o ++ u)) (sym size) ∙ take-past (take n o) u k
+
 -- ---- the lines of a block
 
 -- another state where the desk's part is the same
-pub at-same : (d : Desk) (was s : State) (x ts ps rs : List ℕ) → s .have ≡ was .have → s .lines ≡ was .lines → s .session ≡ was .session → s .going ≡ was .going
-    → At d was x ts ps rs → At d s x ts ps rs
-at-same d was s x ts ps rs e₁ e₂ e₃ e₄ h = record {
+pub at-same : (d : Desk) (was s : State) (x ts ps rs o : List ℕ) → s .have ≡ was .have → s .lines ≡ was .lines → s .session ≡ was .session → s .going ≡ was .going → s .used ≡ was .used
+    → At d was x ts ps rs o → At d s x ts ps rs o
+at-same d was s x ts ps rs o e₁ e₂ e₃ e₄ e₅ h = record {
   buffer = rw e₁ (h .buffer);
   lines = h .lines ∙ sym e₂;
   session = h .session ∙ sym e₃;
@@ -72,15 +106,17 @@ at-same d was s x ts ps rs e₁ e₂ e₃ e₄ h = record {
   promises = h .promises;
   report = h .report;
   going = λ g. h .going (sym e₄ ∙ g);
+  waits = rw e₅ (h .waits);
 }
 
 -- nothing is taken yet at the start of the block
-pub fed-none : (d : Desk) (b : List ℕ) (s : State) (x ts ps rs : List ℕ) → s .from ≡ 0 → At d s x ts ps rs → Fed d b 0 s x ts ps rs
-fed-none d b s x ts ps rs e h = record { desk = d; bytes = ap (λ (i : ℕ). feed d (drop i b)) (sym e); at = h }
+pub fed-none : (d : Desk) (b : List ℕ) (s : State) (x ts ps rs o : List ℕ) → s .from ≡ 0 → At d s x ts ps rs o → Fed d b 0 s x ts ps rs o
+fed-none d b s x ts ps rs o e h = record { desk = d; bytes = ap (λ (i : ℕ). feed d (drop i b)) (sym e); at = h }
 
 -- what a turn takes and carries on
-taken : (d d′ : Desk) (b : List ℕ) (from : ℕ) (t : Turn) (n : ℕ) (r : State) (x ts ps rs : List ℕ) → Takes d b from t d′ → Carries t n r x ts ps rs → Fed d b from r x ts ps rs
-taken d d′ b from t n r x ts ps rs k c = record {
+taken : (d d′ : Desk) (b : List ℕ) (from : ℕ) (t : Turn) (n : ℕ) (o : List ℕ) (r : State) (x ts ps rs out : List ℕ) → n ≤ length o → Waiting (d .said) n o
+    → Takes d b from t d′ → Carries t n o r x ts ps rs out → Fed d b from r x ts ps rs out
+taken d d′ b from t n o r x ts ps rs out l w k c = record {
   desk = d′;
   bytes = k .bytes ∙ ap (λ (i : ℕ). feed d′ (drop i b)) (sym (c .from));
   at = record {
@@ -91,28 +127,30 @@ taken d d′ b from t n r x ts ps rs k c = record {
     promises = k .promises ∙ sym (c .promises);
     report = k .report ∙ sym (c .report);
     going = λ g. k .going ∙ c .going g;
+    waits = rw (c .used, k .said) (waits-more (d .said) o (t .out) out n (t .bytes) l (c .answer) w);
   };
 }
 
-module _ (b : List ℕ) (was r : State) (x ts ps rs x′ ts′ ps′ rs′ out : List ℕ) where
+module _ (b : List ℕ) (was r : State) (x ts ps rs o x′ ts′ ps′ rs′ o′ : List ℕ) where
   -- one line more, from where the desk d is
-  pub fed-line : (d : Desk) → was .from < length b → was .going ≡ true
-      → ((n : ℕ) × (n + 2048 ≤ length out) × Carries (turnOf b (was .from) x (was .have) (was .lines) (was .session) ts ps rs (drop n out)) n r x′ ts′ ps′ rs′)
-      → At d was x ts ps rs → Fed d b (was .from) r x′ ts′ ps′ rs′
-  fed-line d l g (n, m, c) h =
-      let t = serve-takes d b (was .from) x (was .have) (drop n out) (omega (arith, length-drop n out)) l (h .going g) (h .buffer) in
-      taken d (t .0) b (was .from) (turnOf b (was .from) x (was .have) (was .lines) (was .session) ts ps rs (drop n out)) n r x′ ts′ ps′ rs′ (rw (← h .lines, ← h .session, ← h .tasks, ← h .promises, ← h .report) (t .1)) c
+  fed-line : (d : Desk) → was .from < length b → was .going ≡ true
+      → ((n : ℕ) × (n + 2048 ≤ length o) × (0 < n → n ≡ was .used) × Carries (turnOf b (was .from) x (was .have) (was .lines) (was .session) ts ps rs (drop n o)) n o r x′ ts′ ps′ rs′ o′)
+      → At d was x ts ps rs o → Fed d b (was .from) r x′ ts′ ps′ rs′ o′
+  fed-line d l g (n, m, k, c) h =
+      let t = serve-takes d b (was .from) x (was .have) (drop n o) (omega (arith, length-drop n o)) l (h .going g) (h .buffer) in
+      taken d (t .0) b (was .from) (turnOf b (was .from) x (was .have) (was .lines) (was .session) ts ps rs (drop n o)) n o r x′ ts′ ps′ rs′ o′ (omega arith) (waits-on (d .said) o (was .used) n k (h .waits))
+      (rw (← h .lines, ← h .session, ← h .tasks, ← h .promises, ← h .report) (t .1)) c
 
   -- one line more, after those that were taken
   pub fed-more : (d : Desk) (i : ℕ) → was .from < length b → was .going ≡ true
-      → ((n : ℕ) × (n + 2048 ≤ length out) × Carries (turnOf b (was .from) x (was .have) (was .lines) (was .session) ts ps rs (drop n out)) n r x′ ts′ ps′ rs′)
-      → Fed d b i was x ts ps rs → Fed d b i r x′ ts′ ps′ rs′
+      → ((n : ℕ) × (n + 2048 ≤ length o) × (0 < n → n ≡ was .used) × Carries (turnOf b (was .from) x (was .have) (was .lines) (was .session) ts ps rs (drop n o)) n o r x′ ts′ ps′ rs′ o′)
+      → Fed d b i was x ts ps rs o → Fed d b i r x′ ts′ ps′ rs′ o′
   fed-more d i l g c f = let t = fed-line (f .desk) l g c (f .at) in record { desk = t .desk; bytes = f .bytes ∙ t .bytes; at = t .at }
 
 -- A BLOCK THAT WAS TAKEN WHOLE: the program is where the desk is after the block's bytes
-pub fed-all : (d : Desk) (b : List ℕ) (r : State) (x ts ps rs : List ℕ) → r .from ≡ length b → Fed d b 0 r x ts ps rs → At (feed d b) r x ts ps rs
+pub fed-all : (d : Desk) (b : List ℕ) (r : State) (x ts ps rs o : List ℕ) → r .from ≡ length b → Fed d b 0 r x ts ps rs o → At (feed d b) r x ts ps rs o
 unfolding feed
-fed-all d b r x ts ps rs e f = subst (λ (y : Desk). At y r x ts ps rs) (sym (f .bytes ∙ ap (λ (s : List ℕ). feed (f .desk) s) none)) (f .at)
+fed-all d b r x ts ps rs o e f = subst (λ (y : Desk). At y r x ts ps rs o) (sym (f .bytes ∙ ap (λ (s : List ℕ). feed (f .desk) s) none)) (f .at)
   where
     none : drop (r .from) b ≡ []
     none = let z : length b ≤ r .from = omega arith in drop-of-length-le b z

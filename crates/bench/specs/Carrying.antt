@@ -1,19 +1,21 @@
 -- What the program carries from one piece of its input to the next. Assumes nothing.
 --
---   Carries t n r x ts ps rs        after the turn t, which wrote from index n of the output array on, the state is r and the line buffer, the tables and the report are these
---   At d s x ts ps rs               the program with the state s, this line buffer, these tables and this report is where the desk d is
---   Fed d b from r x ts ps rs       from where the desk d is, the bytes of the block b from `from` on up to the place of r were taken
+--   Carries t n o r x ts ps rs out  after the turn t, which wrote from index n of the output array o on, the state is r and the line buffer, the tables, the report and
+--                                   the output array are these
+--   Waiting s k o                   the first k bytes of the output array o are the last ones of s
+--   At d s x ts ps rs o             the program with the state s, this line buffer, these tables, this report and this output array is where the desk d is
+--   Fed d b from r x ts ps rs o     from where the desk d is, the bytes of the block b from `from` on up to the place of r were taken
 -- The desk is the one of serving's Input.antt, which takes the input byte by byte.
 use Prim.Native.Nat.{ℕ, _+_}
 use mathlib.Core.Path.{_≡_}
-use mathlib.Core.List.{List}
+use mathlib.Core.List.{List, _++_}
 use mathlib.Core.Bool.{true}
-use lib.ListN.{drop}
+use lib.ListN.{take, drop}
 use Rattle.serving.specs.Serving.{Turn}
 use Rattle.serving.specs.Input.{Desk, feed, Buffered}
 use Rattle.bench.specs.declared.State.{State}
 
-pub record Carries (t : Turn) (n : ℕ) (r : State) (x ts ps rs : List ℕ) : Type 0 where
+pub record Carries (t : Turn) (n : ℕ) (o : List ℕ) (r : State) (x ts ps rs out : List ℕ) : Type 0 where
   pub from : r .from ≡ t .next
   pub have : r .have ≡ t .have
   pub lines : r .lines ≡ t .lines
@@ -24,9 +26,15 @@ pub record Carries (t : Turn) (n : ℕ) (r : State) (x ts ps rs : List ℕ) : Ty
   pub tasks : ts ≡ t .tasks
   pub promises : ps ≡ t .promises
   pub report : rs ≡ t .report
+  pub answer : out ≡ take n o ++ t .out
 
--- What waits in the output array is left out: a desk has only what was printed in all. The program may have stopped where the desk goes on, since the output was closed.
-pub record At (d : Desk) (s : State) (x ts ps rs : List ℕ) : Type 0 where
+-- those before them, `gone`, are for standard output to have: what is written there is not proved
+pub record Waiting (s : List ℕ) (k : ℕ) (o : List ℕ) : Type 0 where
+  pub gone : List ℕ
+  pub rest : s ≡ gone ++ take k o
+
+-- The program may have stopped where the desk goes on, since the output was closed.
+pub record At (d : Desk) (s : State) (x ts ps rs o : List ℕ) : Type 0 where
   pub buffer : Buffered d x (s .have)
   pub lines : d .lines ≡ s .lines
   pub session : d .session ≡ s .session
@@ -34,9 +42,10 @@ pub record At (d : Desk) (s : State) (x ts ps rs : List ℕ) : Type 0 where
   pub promises : d .promises ≡ ps
   pub report : d .report ≡ rs
   pub going : s .going ≡ true → d .going ≡ true
+  pub waits : Waiting (d .said) (s .used) o
 
 -- what is left of the block is still to be taken from where the desk is now
-pub record Fed (d : Desk) (b : List ℕ) (from : ℕ) (r : State) (x ts ps rs : List ℕ) : Type 0 where
+pub record Fed (d : Desk) (b : List ℕ) (from : ℕ) (r : State) (x ts ps rs o : List ℕ) : Type 0 where
   pub desk : Desk
   pub bytes : feed d (drop from b) ≡ feed desk (drop (r .from) b)
-  pub at : At desk r x ts ps rs
+  pub at : At desk r x ts ps rs o

@@ -60,7 +60,7 @@ fn put_out(out: &[u8], s: State) -> State
 // Sees that the output array has room for an answer line.
 fn with_room(out: &[u8], s: State) -> State
     requires { ⌜ (s .used ≤ length (now out)) × (length (now out) ≡ 32768) ⌝ }
-    ensures { λ r. ⌜ (r .from ≡ s .from) × (r .used + 2048 ≤ length (now (out .entry))) × (r .have ≡ s .have) × (r .lines ≡ s .lines) × (r .session ≡ s .session) ⌝ }
+    ensures { λ r. ⌜ (r .from ≡ s .from) × (r .used + 2048 ≤ length (now (out .entry))) × (r .have ≡ s .have) × (r .lines ≡ s .lines) × (r .session ≡ s .session) × (0 < r .used → r .used ≡ s .used) ⌝ }
 {
     if out.len() - s.used < 2048 {
         return put_out(out, s);
@@ -80,7 +80,7 @@ fn serve_line(
 ) -> State
     requires { ⌜ (was .from < length (now block)) × (was .used ≤ length (now out)) × (length (now out) ≡ 32768) ⌝ }
     ensures { λ r. ⌜ (was .from < r .from) × (r .from ≤ length (now (block .entry))) × (r .used ≤ length (now (out .entry))) ⌝ }
-    ensures { λ r. ⌜ ((n : ℕ) × (n + 2048 ≤ length (now (out .entry))) × Carries (turnOf (now (block .entry)) (was .from) (now (line .entry)) (was .have) (was .lines) (was .session) (now (tasks .entry)) (now (promises .entry)) (now (report .entry)) (drop n (now (out .entry)))) n r (now (line .exit)) (now (tasks .exit)) (now (promises .exit)) (now (report .exit))) ⌝ }
+    ensures { λ r. ⌜ ((n : ℕ) × (n + 2048 ≤ length (now (out .entry))) × (0 < n → n ≡ was .used) × Carries (turnOf (now (block .entry)) (was .from) (now (line .entry)) (was .have) (was .lines) (was .session) (now (tasks .entry)) (now (promises .entry)) (now (report .entry)) (drop n (now (out .entry)))) n (now (out .entry)) r (now (line .exit)) (now (tasks .exit)) (now (promises .exit)) (now (report .exit)) (now (out .exit))) ⌝ }
 {
     let s = with_room(out, was);
     let used = s.used;
@@ -135,7 +135,7 @@ fn serve_block(
 ) -> State
     requires { ⌜ (was .used ≤ length (now out)) × (length (now out) ≡ 32768) ⌝ }
     ensures { λ r. ⌜ (r .used ≤ length (now (out .entry))) × (r .from ≤ length (now (block .entry))) × (r .going ≡ true → r .from ≡ length (now (block .entry))) ⌝ }
-    ensures { λ r. ⌜ ((d : Desk) → At d was (now (line .entry)) (now (tasks .entry)) (now (promises .entry)) (now (report .entry)) → Fed d (now (block .entry)) 0 r (now (line .exit)) (now (tasks .exit)) (now (promises .exit)) (now (report .exit))) ⌝ }
+    ensures { λ r. ⌜ ((d : Desk) → At d was (now (line .entry)) (now (tasks .entry)) (now (promises .entry)) (now (report .entry)) (now (out .entry)) → Fed d (now (block .entry)) 0 r (now (line .exit)) (now (tasks .exit)) (now (promises .exit)) (now (report .exit)) (now (out .exit))) ⌝ }
 {
     let mut s = at_start(was);
     while s.from < block.len() {
