@@ -4,16 +4,18 @@ use mathlib.Core.List.{List, [], _∷_, _++_, append-assoc, append-nil}
 use mathlib.Core.Bool.{Bool, true, false, not, _&&_}
 use mathlib.Core.Path.{_≡_, refl, ap, sym, subst, _∙_}
 use native.Mathlib.Omega.{arith}
-use lib.ListN.{length, take, drop, length-drop, drop-of-length-le}
+use lib.ListN.{length, take, drop, length-drop, drop-of-length-le, replicate}
 use lib.Seq.{length-take-le}
 use borrow.Rule.Slice.PartMut.{putMid}
 use Rattle.buffers.proofs.BufferLaws.{rest-lent}
+use Rattle.gather.specs.Gather.{isLast}
+use Rattle.sessions.specs.declared.Session.the-variants.{Unopened}
 use Rattle.serving.specs.declared.Served.{Served}
 use Rattle.serving.specs.Serving.{Turn, turnOf, Serves}
-use Rattle.serving.specs.Input.{Desk, feed, Takes}
-use Rattle.serving.proofs.Theorems.{serve-takes}
+use Rattle.serving.specs.Input.{Desk, opening, feed, ended, Takes}
+use Rattle.serving.proofs.Theorems.{serve-takes, opening-buffered, last-is-last}
 use Rattle.bench.specs.declared.State.{State}
-use Rattle.bench.specs.Carrying.{Carries, Waiting, At, Fed}
+use Rattle.bench.specs.Carrying.{Carries, Waiting, At, Fed, Ends}
 
 -- what is written after what an array holds already, into the rest of it, which was lent, ends within the array
 pub added-within : (x : List ℕ) (used bytes : ℕ) → bytes ≤ length (take (length x - used) (drop used x)) → used ≤ length x
@@ -54,7 +56,11 @@ carried b was s x ts ps rs out {q} {x′} {ts′} {ps′} {rs′} {out′} e₁ 
           }),
     )
 
--- of two flags joined, the second
+-- of two flags joined, the first and the second
+pub joined-first : (a b : Bool) → (a && b) ≡ true → a ≡ true
+joined-first true b e = refl
+joined-first false b e = e
+
 pub joined-second : (a b : Bool) → (a && b) ≡ true → b ≡ true
 joined-second true b e = e
 joined-second false b e = let z : false ≡ true = e in let y : _≡_ {A = ℕ} 0 1 = cc in absurd (omega arith)
@@ -68,6 +74,9 @@ goes-on false e = sym e
 pub stops-or-goes : {A : Type 0} (b : Bool) → b ≡ true → not b ≡ true → A
 stops-or-goes true g e = let y : _≡_ {A = ℕ} 0 1 = cc in absurd (omega arith)
 stops-or-goes false g e = let y : _≡_ {A = ℕ} 0 1 = cc in absurd (omega arith)
+
+pub more-than-none : (n : ℕ) → (n ≡ 0 → ⊥) → 0 < n
+more-than-none n e = omega (arith, e)
 
 -- ---- what waits in the output array
 
@@ -154,3 +163,58 @@ fed-all d b r x ts ps rs o e f = subst (λ (y : Desk). At y r x ts ps rs o) (sym
   where
     none : drop (r .from) b ≡ []
     none = let z : length b ≤ r .from = omega arith in drop-of-length-le b z
+
+-- ---- before the first block, between two, and after the last
+
+-- THE PROGRAM STARTS WHERE THE DESK OPENS, with any line buffer of the right length, with empty tables and with any output array
+pub opening-at : (s : State) (x o : List ℕ) → length x ≡ 2048 → s .used ≡ 0 → s .have ≡ 0 → s .lines ≡ 0 → s .session ≡ Unopened
+    → At opening s x (replicate 64 0) (replicate 256 0) (replicate 384 0) o
+opening-at s x o l e₁ e₂ e₃ e₄ = record {
+  buffer = rw e₂ (opening-buffered x l);
+  lines = sym e₃;
+  session = sym e₄;
+  tasks = refl;
+  promises = refl;
+  report = refl;
+  going = λ g. refl;
+  waits = rw e₁ (record { gone = []; rest = refl });
+}
+
+-- putting out what waits leaves the program where it is
+pub at-put-out : (d : Desk) (s r : State) (x ts ps rs o : List ℕ) → r .used ≡ 0 → r .have ≡ s .have → r .lines ≡ s .lines → r .session ≡ s .session
+    → (r .going ≡ true → s .going ≡ true) → At d s x ts ps rs o → At d r x ts ps rs o
+at-put-out d s r x ts ps rs o e₁ e₂ e₃ e₄ e₅ h = record {
+  buffer = rw e₂ (h .buffer);
+  lines = h .lines ∙ sym e₃;
+  session = h .session ∙ sym e₄;
+  tasks = h .tasks;
+  promises = h .promises;
+  report = h .report;
+  going = λ g. h .going (e₅ g);
+  waits = rw e₁ (waits-on (d .said) o (s .used) 0 (λ z. absurd (omega arith)) (h .waits));
+}
+
+last-fed : (d : Desk) → isLast (length (d .begun)) ≡ true → ended d ≡ feed d (10 ∷ [])
+unfolding ended feed
+last-fed d e = rw e
+
+none-fed : (d : Desk) → isLast (length (d .begun)) ≡ false → ended d ≡ d
+unfolding ended
+none-fed d e = rw e
+
+ends-at : (d y : Desk) (r : State) (x ts ps rs o : List ℕ) → ended d ≡ y → At y r x ts ps rs o → Ends d ts ps rs
+ends-at d y r x ts ps rs o e a = record {
+  tasks = sym (ap (λ (z : Desk). z .tasks) e ∙ a .tasks);
+  promises = sym (ap (λ (z : Desk). z .promises) e ∙ a .promises);
+  report = sym (ap (λ (z : Desk). z .report) e ∙ a .report);
+}
+
+-- a last line without LF is served as if it had one
+pub ends-served : (d : Desk) (s r : State) (x ts ps rs o x′ ts′ ps′ rs′ o′ : List ℕ) → isLast (s .have) ≡ true → At d s x ts ps rs o → r .from ≡ 1 → Fed d (10 ∷ []) 0 r x′ ts′ ps′ rs′ o′
+    → Ends d ts′ ps′ rs′
+ends-served d s r x ts ps rs o x′ ts′ ps′ rs′ o′ e h z f =
+    ends-at d (feed d (10 ∷ [])) r x′ ts′ ps′ rs′ o′ (last-fed d (sym (last-is-last d x (s .have) (h .buffer)) ∙ e)) (fed-all d (10 ∷ []) r x′ ts′ ps′ rs′ o′ z f)
+
+-- where no line has begun, nothing is left to do
+pub ends-none : (d : Desk) (s : State) (x ts ps rs o : List ℕ) → isLast (s .have) ≡ false → At d s x ts ps rs o → Ends d ts ps rs
+ends-none d s x ts ps rs o e h = ends-at d d s x ts ps rs o (none-fed d (sym (last-is-last d x (s .have) (h .buffer)) ∙ e)) h

@@ -5,6 +5,7 @@
 --   Waiting s k o                   the first k bytes of the output array o are the last ones of s
 --   At d s x ts ps rs o             the program with the state s, this line buffer, these tables, this report and this output array is where the desk d is
 --   Fed d b from r x ts ps rs o     from where the desk d is, the bytes of the block b from `from` on up to the place of r were taken
+--   Ends d ts ps rs                 the tables and the report are those after the input's end, which came where the desk d is
 -- The desk is the one of serving's Input.antt, which takes the input byte by byte.
 use Prim.Native.Nat.{ℕ, _+_}
 use mathlib.Core.Path.{_≡_}
@@ -12,7 +13,7 @@ use mathlib.Core.List.{List, _++_}
 use mathlib.Core.Bool.{true}
 use lib.ListN.{take, drop}
 use Rattle.serving.specs.Serving.{Turn}
-use Rattle.serving.specs.Input.{Desk, feed, Buffered}
+use Rattle.serving.specs.Input.{Desk, feed, ended, Buffered}
 use Rattle.bench.specs.declared.State.{State}
 
 pub record Carries (t : Turn) (n : ℕ) (o : List ℕ) (r : State) (x ts ps rs out : List ℕ) : Type 0 where
@@ -49,3 +50,8 @@ pub record Fed (d : Desk) (b : List ℕ) (from : ℕ) (r : State) (x ts ps rs o 
   pub desk : Desk
   pub bytes : feed d (drop from b) ≡ feed desk (drop (r .from) b)
   pub at : At desk r x ts ps rs o
+
+pub record Ends (d : Desk) (ts ps rs : List ℕ) : Type 0 where
+  pub tasks : ts ≡ ended d .tasks
+  pub promises : ps ≡ ended d .promises
+  pub report : rs ≡ ended d .report

@@ -7,9 +7,10 @@ ghost use mathlib.Core.Path.{_≡_};
 ghost use Prim.Native.Nat.{ℕ, _+_, _≤_, _<_};
 ghost use mathlib.Core.Bool.{true};
 ghost use lib.ListN.{length, drop};
+ghost use Rattle.sessions.specs.declared.Session.the-variants.{Unopened};
 ghost use Rattle.serving.specs.Serving.{turnOf};
 ghost use Rattle.serving.specs.Input.{Desk};
-ghost use Rattle.bench.specs.Carrying.{Carries, At, Fed};
+ghost use Rattle.bench.specs.Carrying.{Carries, At, Fed, Ends};
 
 // Where the program is: the place in the block, how many bytes of the line that has begun were counted, how many lines were answered, the session value, how many
 // bytes wait in the output array, and whether the program goes on.
@@ -24,7 +25,7 @@ pub struct State {
 
 // Before the first line.
 fn start() -> State
-    ensures { λ r. ⌜ r .used ≡ 0 ⌝ }
+    ensures { λ r. ⌜ (r .used ≡ 0) × (r .have ≡ 0) × (r .lines ≡ 0) × (r .session ≡ Unopened) × (r .going ≡ true) ⌝ }
 {
     State {
         from: 0,
@@ -39,7 +40,7 @@ fn start() -> State
 // Puts out the answers that wait. The program ends where the output is closed.
 fn put_out(out: &[u8], s: State) -> State
     requires { ⌜ s .used ≤ length (now out) ⌝ }
-    ensures { λ r. ⌜ (r .from ≡ s .from) × (r .used ≡ 0) × (r .have ≡ s .have) × (r .lines ≡ s .lines) × (r .session ≡ s .session) ⌝ }
+    ensures { λ r. ⌜ (r .from ≡ s .from) × (r .used ≡ 0) × (r .have ≡ s .have) × (r .lines ≡ s .lines) × (r .session ≡ s .session) × (r .going ≡ true → s .going ≡ true) ⌝ }
 {
     let used = s.used;
     if used == 0 {
@@ -134,7 +135,7 @@ fn serve_block(
     was: State,
 ) -> State
     requires { ⌜ (was .used ≤ length (now out)) × (length (now out) ≡ 32768) ⌝ }
-    ensures { λ r. ⌜ (r .used ≤ length (now (out .entry))) × (r .from ≤ length (now (block .entry))) × (r .going ≡ true → r .from ≡ length (now (block .entry))) ⌝ }
+    ensures { λ r. ⌜ (r .used ≤ length (now (out .entry))) × (r .from ≤ length (now (block .entry))) × (r .going ≡ true → r .from ≡ length (now (block .entry))) × (was .going ≡ true → 0 < length (now (block .entry)) → 0 < r .from) ⌝ }
     ensures { λ r. ⌜ ((d : Desk) → At d was (now (line .entry)) (now (tasks .entry)) (now (promises .entry)) (now (report .entry)) (now (out .entry)) → Fed d (now (block .entry)) 0 r (now (line .exit)) (now (tasks .exit)) (now (promises .exit)) (now (report .exit)) (now (out .exit))) ⌝ }
 {
     let mut s = at_start(was);
@@ -157,6 +158,7 @@ fn finish(
     s: State,
 )
     requires { ⌜ (s .used ≤ length (now out)) × (length (now out) ≡ 32768) ⌝ }
+    ensures { λ r. ⌜ ((d : Desk) → At d s (now (line .entry)) (now (tasks .entry)) (now (promises .entry)) (now (report .entry)) (now (out .entry)) → s .going ≡ true → Ends d (now (tasks .exit)) (now (promises .exit)) (now (report .exit))) ⌝ }
 {
     if gather::is_last(s.have) {
         let last = serve_block(b"\n", line, tasks, promises, report, out, s);
