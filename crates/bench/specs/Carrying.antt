@@ -29,7 +29,7 @@ pub record Carries (t : Turn) (n : ℕ) (o : List ℕ) (r : State) (x ts ps rs o
   pub report : rs ≡ t .report
   pub answer : out ≡ take n o ++ t .out
 
--- those before them, `gone`, are for standard output to have: what is written there is not proved
+-- The bytes before them, `gone`, were put out: what standard output has of them is not proved.
 pub record Waiting (s : List ℕ) (k : ℕ) (o : List ℕ) : Type 0 where
   pub gone : List ℕ
   pub rest : s ≡ gone ++ take k o
@@ -45,7 +45,7 @@ pub record At (d : Desk) (s : State) (x ts ps rs o : List ℕ) : Type 0 where
   pub going : s .going ≡ true → d .going ≡ true
   pub waits : Waiting (d .said) (s .used) o
 
--- what is left of the block is still to be taken from where the desk is now
+-- What is left of the block is still to be taken from where the desk is now. Where nothing is left, that desk is the one after the block's bytes (BenchLaws, `fed-all`).
 pub record Fed (d : Desk) (b : List ℕ) (from : ℕ) (r : State) (x ts ps rs o : List ℕ) : Type 0 where
   pub desk : Desk
   pub bytes : feed d (drop from b) ≡ feed desk (drop (r .from) b)

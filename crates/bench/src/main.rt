@@ -124,7 +124,7 @@ fn at_start(s: State) -> State
     }
 }
 
-// Every line of a block.
+// Every line of a block. Wherever the program was, it is after the block where the bytes taken one by one lead; where it goes on, it took all of them.
 fn serve_block(
     block: &[u8],
     line: &mut [u8],
@@ -148,7 +148,7 @@ fn serve_block(
     s
 }
 
-// The input ended. A last line without LF is served as if it had one.
+// The input ended. A last line without LF is served as if it had one. The tables and the report are then those of the input's end.
 fn finish(
     line: &mut [u8],
     tasks: &mut [u16],

@@ -1,4 +1,4 @@
--- `serve_block` meets its contract: each turn goes on in the block, and no array changes its length.
+-- `serve_block` meets its contract: each turn goes on in the block from where the turns before it led, and no array changes its length.
 -- Assumes nothing.
 use Prim.Native.Nat.{ℕ, _-_, _≤_}
 use mathlib.Core.Path.{_≡_, refl, subst, _∙_}
