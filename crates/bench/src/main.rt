@@ -5,9 +5,12 @@
 use sessions::Session;
 ghost use mathlib.Core.Path.{_≡_};
 ghost use Prim.Native.Nat.{ℕ, _+_, _≤_, _<_};
+ghost use mathlib.Core.Bool.{true};
 ghost use lib.ListN.{length, drop};
+ghost use Rattle.sessions.specs.declared.Session.the-variants.{Unopened};
 ghost use Rattle.serving.specs.Serving.{turnOf};
-ghost use Rattle.bench.specs.Carrying.{Carries};
+ghost use Rattle.serving.specs.Input.{Desk};
+ghost use Rattle.bench.specs.Carrying.{Carries, At, Fed, Ends};
 
 // Where the program is: the place in the block, how many bytes of the line that has begun were counted, how many lines were answered, the session value, how many
 // bytes wait in the output array, and whether the program goes on.
@@ -22,7 +25,7 @@ pub struct State {
 
 // Before the first line.
 fn start() -> State
-    ensures { λ r. ⌜ r .used ≡ 0 ⌝ }
+    ensures { λ r. ⌜ (r .used ≡ 0) × (r .have ≡ 0) × (r .lines ≡ 0) × (r .session ≡ Unopened) × (r .going ≡ true) ⌝ }
 {
     State {
         from: 0,
@@ -37,7 +40,7 @@ fn start() -> State
 // Puts out the answers that wait. The program ends where the output is closed.
 fn put_out(out: &[u8], s: State) -> State
     requires { ⌜ s .used ≤ length (now out) ⌝ }
-    ensures { λ r. ⌜ (r .from ≡ s .from) × (r .used ≡ 0) × (r .have ≡ s .have) × (r .lines ≡ s .lines) × (r .session ≡ s .session) ⌝ }
+    ensures { λ r. ⌜ (r .from ≡ s .from) × (r .used ≡ 0) × (r .have ≡ s .have) × (r .lines ≡ s .lines) × (r .session ≡ s .session) × (r .going ≡ true → s .going ≡ true) ⌝ }
 {
     let used = s.used;
     if used == 0 {
@@ -58,7 +61,7 @@ fn put_out(out: &[u8], s: State) -> State
 // Sees that the output array has room for an answer line.
 fn with_room(out: &[u8], s: State) -> State
     requires { ⌜ (s .used ≤ length (now out)) × (length (now out) ≡ 32768) ⌝ }
-    ensures { λ r. ⌜ (r .from ≡ s .from) × (r .used + 2048 ≤ length (now (out .entry))) × (r .have ≡ s .have) × (r .lines ≡ s .lines) × (r .session ≡ s .session) ⌝ }
+    ensures { λ r. ⌜ (r .from ≡ s .from) × (r .used + 2048 ≤ length (now (out .entry))) × (r .have ≡ s .have) × (r .lines ≡ s .lines) × (r .session ≡ s .session) × (0 < r .used → r .used ≡ s .used) ⌝ }
 {
     if out.len() - s.used < 2048 {
         return put_out(out, s);
@@ -78,7 +81,7 @@ fn serve_line(
 ) -> State
     requires { ⌜ (was .from < length (now block)) × (was .used ≤ length (now out)) × (length (now out) ≡ 32768) ⌝ }
     ensures { λ r. ⌜ (was .from < r .from) × (r .from ≤ length (now (block .entry))) × (r .used ≤ length (now (out .entry))) ⌝ }
-    ensures { λ r. ⌜ ((n : ℕ) × Carries (turnOf (now (block .entry)) (was .from) (now (line .entry)) (was .have) (was .lines) (was .session) (now (tasks .entry)) (now (promises .entry)) (now (report .entry)) (drop n (now (out .entry)))) n r (now (line .exit)) (now (tasks .exit)) (now (promises .exit)) (now (report .exit))) ⌝ }
+    ensures { λ r. ⌜ ((n : ℕ) × (n + 2048 ≤ length (now (out .entry))) × (0 < n → n ≡ was .used) × Carries (turnOf (now (block .entry)) (was .from) (now (line .entry)) (was .have) (was .lines) (was .session) (now (tasks .entry)) (now (promises .entry)) (now (report .entry)) (drop n (now (out .entry)))) n (now (out .entry)) r (now (line .exit)) (now (tasks .exit)) (now (promises .exit)) (now (report .exit)) (now (out .exit))) ⌝ }
 {
     let s = with_room(out, was);
     let used = s.used;
@@ -108,7 +111,7 @@ fn serve_line(
 
 // The same place in a new block: its start.
 fn at_start(s: State) -> State
-    ensures { λ r. ⌜ (r .from ≡ 0) × (r .used ≡ s .used) × (r .have ≡ s .have) × (r .lines ≡ s .lines) × (r .session ≡ s .session) ⌝ }
+    ensures { λ r. ⌜ (r .from ≡ 0) × (r .used ≡ s .used) × (r .have ≡ s .have) × (r .lines ≡ s .lines) × (r .session ≡ s .session) × (r .going ≡ s .going) ⌝ }
 {
     let session = s.session;
     State {
@@ -121,7 +124,7 @@ fn at_start(s: State) -> State
     }
 }
 
-// Every line of a block.
+// Every line of a block. Wherever the program was, it is after the block where the bytes taken one by one lead; where it goes on, it took all of them.
 fn serve_block(
     block: &[u8],
     line: &mut [u8],
@@ -132,7 +135,8 @@ fn serve_block(
     was: State,
 ) -> State
     requires { ⌜ (was .used ≤ length (now out)) × (length (now out) ≡ 32768) ⌝ }
-    ensures { λ r. ⌜ r .used ≤ length (now (out .entry)) ⌝ }
+    ensures { λ r. ⌜ (r .used ≤ length (now (out .entry))) × (r .from ≤ length (now (block .entry))) × (r .going ≡ true → r .from ≡ length (now (block .entry))) × (was .going ≡ true → 0 < length (now (block .entry)) → 0 < r .from) ⌝ }
+    ensures { λ r. ⌜ ((d : Desk) → At d was (now (line .entry)) (now (tasks .entry)) (now (promises .entry)) (now (report .entry)) (now (out .entry)) → Fed d (now (block .entry)) 0 r (now (line .exit)) (now (tasks .exit)) (now (promises .exit)) (now (report .exit)) (now (out .exit))) ⌝ }
 {
     let mut s = at_start(was);
     while s.from < block.len() {
@@ -144,7 +148,7 @@ fn serve_block(
     s
 }
 
-// The input ended. A last line without LF is served as if it had one.
+// The input ended. A last line without LF is served as if it had one. The tables and the report are then those of the input's end.
 fn finish(
     line: &mut [u8],
     tasks: &mut [u16],
@@ -154,6 +158,7 @@ fn finish(
     s: State,
 )
     requires { ⌜ (s .used ≤ length (now out)) × (length (now out) ≡ 32768) ⌝ }
+    ensures { λ r. ⌜ ((d : Desk) → At d s (now (line .entry)) (now (tasks .entry)) (now (promises .entry)) (now (report .entry)) (now (out .entry)) → s .going ≡ true → Ends d (now (tasks .exit)) (now (promises .exit)) (now (report .exit))) ⌝ }
 {
     if gather::is_last(s.have) {
         let last = serve_block(b"\n", line, tasks, promises, report, out, s);

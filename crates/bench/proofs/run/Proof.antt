@@ -103,7 +103,7 @@ loop-again c =
       w .serve-block .kept .1 .1 .1 .0 ∙ h .3,
       w .serve-block .kept .1 .1 .1 .1 .0 ∙ h .4,
       w .serve-block .kept .1 .1 .1 .1 .1 .0 ∙ h .5,
-      subst (λ (n : ℕ). w .serve-block .result .used ≤ n) (h .5) (w .serve-block .ensures),
+      subst (λ (n : ℕ). w .serve-block .result .used ≤ n) (h .5) (w .serve-block .ensures .0 .0),
     )
 
 same-length-13 : tie.Need-same-length-13 Inv-loop μ-loop
