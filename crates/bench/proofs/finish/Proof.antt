@@ -6,49 +6,34 @@ use Rattle.bench.proofs.BenchLaws.{ends-served, ends-none}
 use borrow.Author.Needs.{needs}
 use Rattle.bench.proofs.finish.Statement.{statement}
 use Rattle.bench.proofs.finish.Tie as tie
-use Rattle.bench.proofs.finish.Reads as reads
-use Rattle.bench.proofs.finish.Lts as lts
-use Rattle.bench.proofs.put_out.Reads as put-out-reads
-use Rattle.bench.proofs.serve_block.Reads as serve-block-reads
-use Rattle.gather.proofs.is_last.Reads as is-last-reads
 
--- src/main.rt:163:8
 is-last-requires : tie.Need-is-last-requires
 is-last-requires c κs = search needs
 
--- src/main.rt:164:32
 slice-aggregate-serve-block : tie.Need-slice-aggregate-serve-block
 slice-aggregate-serve-block c = search needs
 
--- src/main.rt:164:13
 serve-block-requires : tie.Need-serve-block-requires
 serve-block-requires c κs = search needs
 
--- src/main.rt:165:9
 put-out-requires : tie.Need-put-out-requires
 put-out-requires c κs = search needs
 
--- src/main.rt:152:1
 same-length : tie.Need-same-length
 same-length c = search needs
 
--- src/main.rt:152:1
 same-length-2 : tie.Need-same-length-2
 same-length-2 c = search needs
 
--- src/main.rt:152:1
 same-length-3 : tie.Need-same-length-3
 same-length-3 c = search needs
 
--- src/main.rt:152:1
 same-length-4 : tie.Need-same-length-4
 same-length-4 c = search needs
 
--- src/main.rt:152:1
 same-length-5 : tie.Need-same-length-5
 same-length-5 c = search needs
 
--- src/main.rt:152:1
 returns : tie.Need-returns
 returns c = λ d h g.
     let w = c .before .before .before .before .before .before .before .before .before .before .before .before .serve-block in
@@ -57,7 +42,6 @@ returns c = λ d h g.
     let all : w .result .from ≡ 1 = omega (arith, w .ensures .0 .1, more) in
     ends-served d (a .s) (w .result) (a .line .now) (a .tasks .now) (a .promises .now) (a .report .now) (a .out .now) _ _ _ _ _ (sym (c .before .before .before .before .before .before .before .before .before .before .before .before .before .before .before .before .before .before .before .before .is-last .ensures) ∙ c .before .before .before .before .before .before .before .before .before .before .before .before .before .before .before .before .before .before .before .if1 .taken) h all (w .ensures .1 d h)
 
--- src/main.rt:152:1
 returns-2 : tie.Need-returns-2
 returns-2 c = λ d h g.
     let a = c .before .before .before .before .before .before .before .args in

@@ -4,31 +4,22 @@ use Rattle.bench.proofs.BenchLaws.{joined-first}
 use borrow.Author.Needs.{needs}
 use Rattle.bench.proofs.put_out.Statement.{statement}
 use Rattle.bench.proofs.put_out.Tie as tie
-use Rattle.bench.proofs.put_out.Reads as reads
-use Rattle.bench.proofs.put_out.Lts as lts
-use Rattle.io.proofs.write_all.Reads as write-all-reads
 
--- src/main.rt:47:9
 returns : tie.Need-returns
 returns c = search needs
 
--- src/main.rt:49:33
 sub-write-all : tie.Need-sub-write-all
 sub-write-all c = search needs
 
--- src/main.rt:49:33
 part-write-all-start : tie.Need-part-write-all-start
 part-write-all-start c = search needs
 
--- src/main.rt:49:33
 part-write-all-end : tie.Need-part-write-all-end
 part-write-all-end c = search needs
 
--- src/main.rt:49:9
 write-all-requires : tie.Need-write-all-requires
 write-all-requires c κs = search needs
 
--- src/main.rt:41:1
 returns-2 : tie.Need-returns-2
 returns-2 c = (refl, refl, refl, refl, refl, λ g. joined-first (c .before .before .before .before .before .args .s .going) (c .before .write-all .result) g)
 

@@ -6,14 +6,9 @@ use lib.ListN.{length, take, drop}
 use Rattle.serving.proofs.ServingLaws.{served-on, served-within}
 use Rattle.bench.proofs.BenchLaws.{added-within, carried, joined-second}
 use native.Mathlib.Omega.{arith}
-use native.Mathlib.Omega.{arith}
 use borrow.Author.Needs.{needs}
 use Rattle.bench.proofs.serve_line.Statement.{statement}
 use Rattle.bench.proofs.serve_line.Tie as tie
-use Rattle.bench.proofs.serve_line.Reads as reads
-use Rattle.bench.proofs.serve_line.Lts as lts
-use Rattle.bench.proofs.with_room.Reads as with-room-reads
-use Rattle.serving.proofs.serve.Reads as serve-reads
 
 facts : (c : tie.After-struct-known) → let r = c .before .before .before .before .before .before .before .before .before .before .before in let w = c .before .before .before .before .before .before .before .before .before .before .before .before .before .before .before .before .before in let a = c .before .before .before .before .before .before .before .before .before .before .before .before .before .before .before .before .before .before .before .before .before .before .before .before .before .args in
     (a .was .from < r .serve .result .next) × (r .serve .result .next ≤ length (a .block .now)) × (w .with-room .result .used + r .serve .result .bytes ≤ length (a .out .now))
@@ -27,51 +22,39 @@ facts c =
     let within = served-within (a .block .now) (s .from) (a .line .now) (s .have) (s .lines) (s .session) (a .tasks .now) (a .promises .now) (a .report .now) rest (r .serve .ensures) in
     (rw (← w .ensures .0) (on .0), on .1, added-within (a .out .now) (s .used) (r .serve .result .bytes) within (omega (arith, w .ensures)))
 
--- src/main.rt:80:9
 with-room-requires : tie.Need-with-room-requires
 with-room-requires c κs = search needs
 
--- src/main.rt:93:9
 sub-serve : tie.Need-sub-serve
 sub-serve c = search needs
 
--- src/main.rt:93:9
 part-serve-start : tie.Need-part-serve-start
 part-serve-start c = search needs
 
--- src/main.rt:93:9
 part-serve-end : tie.Need-part-serve-end
 part-serve-end c = search needs
 
--- src/main.rt:83:9
 serve-requires : tie.Need-serve-requires
 serve-requires c κs = search needs
 
--- src/main.rt:101:15
 add-t24 : tie.Need-add-t24
 add-t24 c = let h = facts c in let room = c .before .before .before .before .before .before .before .before .before .before .before .before .before .before .before .before .before .before .before .before .before .before .before .before .before .pre .2 in search needs
 
--- src/main.rt:68:1
 same-length : tie.Need-same-length
 same-length c = search needs
 
--- src/main.rt:68:1
 same-length-2 : tie.Need-same-length-2
 same-length-2 c = search needs
 
--- src/main.rt:68:1
 same-length-3 : tie.Need-same-length-3
 same-length-3 c = search needs
 
--- src/main.rt:68:1
 same-length-4 : tie.Need-same-length-4
 same-length-4 c = search needs
 
--- src/main.rt:68:1
 same-length-5 : tie.Need-same-length-5
 same-length-5 c = search needs
 
--- src/main.rt:68:1
 returns : tie.Need-returns
 returns c = (facts (c .before .before), carried (c .before .before .before .before .before .before .before .before .before .before .before .before .before .before .before .before .before .before .before .before .before .before .before .before .before .before .before .args .block .now) (c .before .before .before .before .before .before .before .before .before .before .before .before .before .before .before .before .before .before .before .before .before .before .before .before .before .before .before .args .was) (c .before .before .before .before .before .before .before .before .before .before .before .before .before .before .before .before .before .before .before .with-room .result) (c .before .before .before .before .before .before .before .before .before .before .before .before .before .before .before .before .before .before .before .before .before .before .before .before .before .before .before .args .line .now) (c .before .before .before .before .before .before .before .before .before .before .before .before .before .before .before .before .before .before .before .before .before .before .before .before .before .before .before .args .tasks .now) (c .before .before .before .before .before .before .before .before .before .before .before .before .before .before .before .before .before .before .before .before .before .before .before .before .before .before .before .args .promises .now) (c .before .before .before .before .before .before .before .before .before .before .before .before .before .before .before .before .before .before .before .before .before .before .before .before .before .before .before .args .report .now) (c .before .before .before .before .before .before .before .before .before .before .before .before .before .before .before .before .before .before .before .before .before .before .before .before .before .before .before .args .out .now) (c .before .before .before .before .before .before .before .before .before .before .before .before .before .before .before .before .before .before .before .with-room .ensures .0) (c .before .before .before .before .before .before .before .before .before .before .before .before .before .before .before .before .before .before .before .with-room .ensures .2) (c .before .before .before .before .before .before .before .before .before .before .before .before .before .before .before .before .before .before .before .with-room .ensures .3) (c .before .before .before .before .before .before .before .before .before .before .before .before .before .before .before .before .before .before .before .with-room .ensures .4) (c .before .before .before .before .before .before .before .before .before .before .before .before .before .serve .ensures) refl refl refl refl refl (λ e. joined-second (c .before .before .before .before .before .before .before .before .before .before .before .before .before .before .before .before .before .before .before .with-room .result .going) (c .before .before .before .before .before .before .before .before .before .before .before .before .before .serve .result .going) e) (c .before .before .before .before .before .before .before .before .before .before .before .before .before .before .before .before .before .before .before .with-room .ensures .1) (c .before .before .before .before .before .before .before .before .before .before .before .before .before .before .before .before .before .before .before .with-room .ensures .5))
 
