@@ -1,12 +1,13 @@
 -- What the program's own numbers rest on. Assumes nothing.
 use Prim.Native.Nat.{ℕ, zero, suc, _+_, _-_, _≤_, _<_}
 use mathlib.Core.List.{List, [], _∷_, _++_, append-assoc, append-nil}
-use mathlib.Core.Bool.{Bool, true, false, not, _&&_}
+use mathlib.Core.Bool.{Bool, true, false, not}
 use mathlib.Core.Path.{_≡_, refl, ap, sym, subst, _∙_}
 use native.Mathlib.Omega.{arith}
 use lib.ListN.{length, take, drop, length-drop, drop-of-length-le, replicate}
 use lib.Seq.{length-take-le}
 use borrow.Rule.Slice.PartMut.{putMid}
+use Rattle.words.proofs.BoolLaws.{clash}
 use Rattle.buffers.proofs.BufferLaws.{rest-lent}
 use Rattle.gather.specs.Gather.{isLast}
 use Rattle.sessions.specs.declared.Session.the-variants.{Unopened}
@@ -56,15 +57,6 @@ carried b was s x ts ps rs out {q} {x′} {ts′} {ps′} {rs′} {out′} e₁ 
           }),
     )
 
--- of two flags joined, the first and the second
-pub joined-first : (a b : Bool) → (a && b) ≡ true → a ≡ true
-joined-first true b e = refl
-joined-first false b e = e
-
-pub joined-second : (a b : Bool) → (a && b) ≡ true → b ≡ true
-joined-second true b e = e
-joined-second false b e = let z : false ≡ true = e in let y : _≡_ {A = ℕ} 0 1 = cc in absurd (omega arith)
-
 -- what is not stopped goes on
 pub goes-on : (b : Bool) → not b ≡ false → b ≡ true
 goes-on true e = refl
@@ -72,8 +64,8 @@ goes-on false e = sym e
 
 -- and nothing does both
 pub stops-or-goes : {A : Type 0} (b : Bool) → b ≡ true → not b ≡ true → A
-stops-or-goes true g e = let y : _≡_ {A = ℕ} 0 1 = cc in absurd (omega arith)
-stops-or-goes false g e = let y : _≡_ {A = ℕ} 0 1 = cc in absurd (omega arith)
+stops-or-goes true g e = clash cc
+stops-or-goes false g e = clash cc
 
 pub more-than-none : (n : ℕ) → (n ≡ 0 → ⊥) → 0 < n
 more-than-none n e = omega (arith, e)

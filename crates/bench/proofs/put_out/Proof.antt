@@ -1,6 +1,6 @@
 -- `put_out` meets its contract: where the program goes on, it went on before. Assumes nothing.
 use mathlib.Core.Path.{refl}
-use Rattle.bench.proofs.BenchLaws.{joined-first}
+use Rattle.words.proofs.BoolLaws.{and-split}
 use borrow.Author.Needs.{needs}
 use Rattle.bench.proofs.put_out.Statement.{statement}
 use Rattle.bench.proofs.put_out.Tie as tie
@@ -21,7 +21,7 @@ write-all-requires : tie.Need-write-all-requires
 write-all-requires c κs = search needs
 
 returns-2 : tie.Need-returns-2
-returns-2 c = (refl, refl, refl, refl, refl, λ g. joined-first (c .before .before .before .before .before .args .s .going) (c .before .write-all .result) g)
+returns-2 c = (refl, refl, refl, refl, refl, λ g. and-split (c .before .before .before .before .before .args .s .going) (c .before .write-all .result) g .0)
 
 pub put-out-spec : {M : Type 1} → statement M
 put-out-spec =
