@@ -26,17 +26,17 @@ use Rattle.rules.specs.Demands.{paperNumbers, Refusal, plain, placed}
 use Rattle.rules.specs.declared.Answer.{Answer}
 use Rattle.rules.specs.declared.Answer.the-variants.{Opened, Made, Set, Value, Blamed, Waits, Cycle, Started, Ended, Refused, RefusedAt}
 use Rattle.rules.proofs.Accepted.{got-is}
+use Rattle.rules.proofs.Counts.{guarded-by, started-by, pairs-length}
 use Rattle.rules.proofs.GivesLaws.{tableRows-none}
-use Rattle.rules.proofs.Order.{guarded-none, guarded-some, got-cases}
 use Rattle.rules.proofs.PlaceLaws.{firstBad-place}
 use Rattle.rules.proofs.RefusalLaws.{actorRows-none, getRows-none}
 use Rattle.rules.proofs.SoundTest.{chain-bound}
-use Rattle.rules.proofs.Promises.{test-means-sound, refused-by-a-number-of-its-own}
+use Rattle.rules.proofs.Promises.{test-means-sound, refused-by-a-number-of-its-own, the-answer-counts-its-words}
 use Rattle.numbers.proofs.PrintLaws.{dec-six}
 use Rattle.writers.specs.Texts.{fieldsText, Every, no-more, one-more}
 use Rattle.writers.proofs.WriterLaws.{fieldsText-four}
 use Rattle.answers.specs.AnswerText.{wordOf, fieldsOf, answerText, longestAnswer}
-use Rattle.answers.proofs.ShownLaws.{wordsShown, fieldsOf-over, fieldsOf-length, fieldsOf-every, every-in, every-append}
+use Rattle.answers.proofs.ShownLaws.{fieldsOf-over, fieldsOf-length, fieldsOf-every, every-in, every-append}
 
 abbrev Low : ℕ → Type 0
 Low n = n < 1000
@@ -76,49 +76,12 @@ pub opened-fits : (n : ℕ) (rs : List ℕ) → n ≤ lastLine → length (answe
 unfolding fieldsOf
 opened-fits n rs h = low-fits n Opened rs h no-more (omega arith)
 
--- ---- a step reports as many words as its answer shows
-
-guarded-by : (Q : Outcome → Type 0) (r : ℕ) (s : Tables) (o : Outcome) → (r ≢ 0 → Q (outcome (Refused r) s [])) → (r ≡ 0 → Q o) → Q (guarded r s o)
-guarded-by Q r s o refused passed = go (ℕ-discrete r 0)
-  where
-    go : Dec (r ≡ 0) → Q (guarded r s o)
-    go (yes z) = subst Q (sym (guarded-none r s o z)) (passed z)
-    go (no m) = subst Q (sym (guarded-some r s o m)) (refused m)
-
-started-by : (Q : Outcome → Type 0) (B : ℕ) (s : Tables) (t c : ℕ) (list : List ℕ) (i : ℕ)
-    → Q (outcome (RefusedAt (entryRefusal B (s .promises) t list i) i) s []) → Q (outcome Started (withStarted s c list) []) → Q (started B s t c list i)
-unfolding started
-started-by Q B s t c list i stopped passed = go (ltb i (length list))
-  where
-    go : (b : Bool) → Q (cond b (outcome (RefusedAt (entryRefusal B (s .promises) t list i) i) s []) (outcome Started (withStarted s c list) []))
-    go true = stopped
-    go false = passed
-
-pairs-length : (k : ℕ) (s : Tables) (t p : ℕ) → length (pairs k s t p) ≡ 2 * k
-unfolding pairs
-pairs-length zero s t p = refl
-pairs-length (suc k) s t p = omega (arith, pairs-length k s (ownerOf s p) (awaitedBy s (ownerOf s p)))
-
-abbrev Enough : Outcome → Type 0
-Enough o = wordsShown (o .answer) ≤ length (o .words)
-
-effect-enough : (F : Form) (s : Tables) (x : Step) → Enough (effect F s x)
-unfolding wordsShown
-effect-enough F s (step-new t p) = omega arith
-effect-enough F s (step-set t p) = omega arith
-effect-enough F s (step-get t p) =
-    got-cases Enough (F .base) s t p (promiseAt s p) (omega arith) (λ b. omega arith) (λ k. omega (arith, pairs-length k s t p)) (λ k. omega arith)
-effect-enough F s (step-async t c list) = started-by Enough (F .base) s t c list _ (omega arith) (omega arith)
-effect-enough F s (step-end t) = rw length-append (omega arith)
-
-step-enough : (F : Form) (n : ℕ) (s : Tables) (x : Step) → Enough (step F n s x)
-unfolding wordsShown
-step-enough F n s x = guarded-by Enough _ s _ (λ m. omega arith) (λ z. guarded-by Enough _ s _ (λ m. omega arith) (λ y. effect-enough F s x))
+-- ---- its words are its own
 
 -- the line of a step shows the step's own words, and none that the report held before
 pub shown-words : (F : Form) (n : ℕ) (s : Tables) (x : Step) (rs : List ℕ)
     → fieldsOf (step F n s x .answer) (over (step F n s x .words) rs) ≡ fieldsOf (step F n s x .answer) (step F n s x .words)
-shown-words F n s x rs = fieldsOf-over (step F n s x .answer) (step F n s x .words) rs (step-enough F n s x)
+shown-words F n s x rs = fieldsOf-over (step F n s x .answer) (step F n s x .words) rs (omega (arith, the-answer-counts-its-words F n s x))
 
 -- ---- its numbers are small
 

@@ -1,9 +1,6 @@
 -- Laws of `fieldsOf` for what an answer shows of the report: with enough words written at the report's start, the fields are the same as
 -- from these words alone, whatever the report held before; there are at most two more of them than words; and they are as small as the
--- answer's own numbers and the words are.
---
---   wordsShown a     how many words of the report the fields of the answer a show
--- Assumes nothing.
+-- answer's own numbers and the words are. Assumes nothing.
 use Prim.Native.Nat.{ℕ, zero, suc, _+_, _*_, _≤_}
 use mathlib.Core.List.{List, [], _∷_, _++_}
 use mathlib.Core.Path.{_≡_, refl, ap}
@@ -11,7 +8,7 @@ use native.Mathlib.Omega.{arith}
 use lib.ListN.{length, take, drop, length-append, length-take, length-drop}
 use Rattle.words.specs.Lists.{over, In, top, pop}
 use Rattle.writers.specs.Texts.{partOf, Every, no-more, one-more}
-use Rattle.rules.specs.Answers.{numberOf, valuesOf}
+use Rattle.rules.specs.Answers.{numberOf, valuesOf, wordCount}
 use Rattle.rules.specs.declared.Answer.{Answer}
 use Rattle.rules.specs.declared.Answer.the-variants.{Opened, Made, Set, Value, Blamed, Waits, Cycle, Started, Ended, Refused, RefusedAt}
 use Rattle.answers.specs.AnswerText.{fieldsOf}
@@ -30,21 +27,8 @@ pub part-over : (from n : ℕ) (ws rs : List ℕ) → from + n ≤ length ws →
 unfolding over
 part-over from n ws rs h = part-append from n ws (drop (length ws) rs) h
 
-unfoldable pub wordsShown : Answer → ℕ
-wordsShown Opened = 0
-wordsShown Made = 0
-wordsShown (Set n) = n
-wordsShown Value = 0
-wordsShown (Blamed b) = 0
-wordsShown (Waits k) = 0
-wordsShown (Cycle k) = 2 * k
-wordsShown Started = 0
-wordsShown (Ended m n) = m + n
-wordsShown (Refused r) = 0
-wordsShown (RefusedAt r i) = 0
-
-pub fieldsOf-over : (a : Answer) (ws rs : List ℕ) → wordsShown a ≤ length ws → fieldsOf a (over ws rs) ≡ fieldsOf a ws
-unfolding wordsShown fieldsOf
+pub fieldsOf-over : (a : Answer) (ws rs : List ℕ) → wordCount a ≤ length ws → fieldsOf a (over ws rs) ≡ fieldsOf a ws
+unfolding wordCount fieldsOf
 fieldsOf-over Opened ws rs h = refl
 fieldsOf-over Made ws rs h = refl
 fieldsOf-over (Set n) ws rs h = rw (part-over 0 n ws rs (omega arith))

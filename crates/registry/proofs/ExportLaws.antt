@@ -8,26 +8,13 @@ use lib.ListN.{length}
 use lib.Seq.{sets}
 use Rattle.words.proofs.ListLaws.{over-sets}
 use Rattle.rules.specs.Tables.{Tables}
-use Rattle.rules.specs.Answers.{numberOf, valuesOf}
+use Rattle.rules.specs.Answers.{numberOf}
 use Rattle.rules.specs.Steps.{Outcome}
 use Rattle.rules.specs.Contracts.{Gives}
 use Rattle.rules.specs.declared.Answer.{Answer}
-use Rattle.rules.specs.declared.Answer.the-variants.{Opened, Made, Set, Value, Blamed, Waits, Cycle, Started, Ended, Refused, RefusedAt}
-use Rattle.registry.specs.Exports.{answerWords, Exported, exported, Exports}
-
-pub answerWords-length : (a : Answer) → length (answerWords a) ≡ 4
-unfolding answerWords valuesOf
-answerWords-length Opened = refl
-answerWords-length Made = refl
-answerWords-length (Set n) = refl
-answerWords-length Value = refl
-answerWords-length (Blamed b) = refl
-answerWords-length (Waits k) = refl
-answerWords-length (Cycle k) = refl
-answerWords-length Started = refl
-answerWords-length (Ended m n) = refl
-answerWords-length (Refused r) = refl
-answerWords-length (RefusedAt r i) = refl
+use Rattle.telling.specs.AnswerWords.{answerWords}
+use Rattle.telling.proofs.AnswerWordLaws.{answerWords-length}
+use Rattle.registry.specs.Exports.{Exported, exported, Exports}
 
 -- fewer than four words are lent for the answer
 pub exports-short : (s : Tables) (rs ws : List ℕ) (o : Outcome) → length ws < 4 → Exports (exported s rs ws o) 1 (s .tasks) (s .promises) rs ws

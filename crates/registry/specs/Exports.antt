@@ -1,6 +1,5 @@
 -- What the exported functions return and write: the answer of a step as a number and four lent words.
 --
---   answerWords a         the answer's number, then its values, three in all: 0 where it has none
 --   Exported              the returned number, both tables, the report and the answer words after a call
 --   exported s rs ws o    those of the outcome o of a step on the tables s with the report rs, and the words ws lent for the answer; with fewer than four words lent
 --                         for it the call is refused by 1, and nothing is written
@@ -8,18 +7,15 @@
 -- Assumes nothing.
 use Prim.Native.Nat.{ℕ}
 use mathlib.Core.Path.{_≡_}
-use mathlib.Core.List.{List, [], _∷_, _++_}
+use mathlib.Core.List.{List}
 use mathlib.Core.Bool.{cond}
 use lib.Dec.{ltb}
-use lib.ListN.{length, take}
+use lib.ListN.{length}
 use Rattle.words.specs.Lists.{over}
 use Rattle.rules.specs.Tables.{Tables}
-use Rattle.rules.specs.Answers.{numberOf, valuesOf}
+use Rattle.rules.specs.Answers.{numberOf}
 use Rattle.rules.specs.Steps.{Outcome}
-use Rattle.rules.specs.declared.Answer.{Answer}
-
-unfoldable pub answerWords : Answer → List ℕ
-answerWords a = numberOf a ∷ take 3 (valuesOf a ++ 0 ∷ 0 ∷ 0 ∷ [])
+use Rattle.telling.specs.AnswerWords.{answerWords}
 
 pub record Exported : Type 0 where
   pub number : ℕ

@@ -12,6 +12,7 @@ pub mod Kept
 pub mod Waiting
 pub mod InTurn
 pub mod Order
+pub mod Counts
 pub mod Named
 pub mod Alarms
 pub mod Policy

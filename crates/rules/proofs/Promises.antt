@@ -12,7 +12,7 @@ use Rattle.words.specs.Lists.{In}
 use Rattle.rules.specs.Tables.{Tables, tables, taskAt, promiseAt, liveTasks, closed, fresh}
 use Rattle.rules.specs.Chains.{Chain, waits}
 use Rattle.rules.specs.Sound.{Live, Sound, soundTest}
-use Rattle.rules.specs.Answers.{numberOf, valuesOf}
+use Rattle.rules.specs.Answers.{numberOf, valuesOf, wordCount}
 use Rattle.rules.specs.Refusals.{tableRows, entryRows}
 use Rattle.rules.specs.Steps.{Step, step-new, step-set, step-get, step-async, step-end, Outcome, outcome, withWait, pairs, rows, step, run}
 use Rattle.rules.specs.ProvedSet.{provedSet, taken, expected}
@@ -25,6 +25,7 @@ use Rattle.rules.specs.declared.Answer.the-variants.{Made, Set, Value, B
 use Rattle.rules.proofs.Alarms as alarms
 use Rattle.rules.proofs.Blocked as blocked
 use Rattle.rules.proofs.Cases as cases
+use Rattle.rules.proofs.Counts as counts
 use Rattle.rules.proofs.InTurn as in-turn
 use Rattle.rules.proofs.Kept as kept
 use Rattle.rules.proofs.Named as named
@@ -102,6 +103,13 @@ module _ (F : Form) (n : ℕ) (s : Tables) where
   -- "a refusal changes no table and no report"
   pub a-refusal-changes-nothing : (x : Step) → Refusal (step F n s x .answer) → (step F n s x .after ≡ s) × (step F n s x .words ≡ [])
   a-refusal-changes-nothing = order.refusal-unchanged F n s
+
+  -- "a report of at least P + 2T words": the words that a step reports are as many as its answer counts, and never more than that
+  pub the-answer-counts-its-words : (x : Step) → length (step F n s x .words) ≡ wordCount (step F n s x .answer)
+  the-answer-counts-its-words = counts.step-counted F n s
+
+  pub the-words-have-room : (x : Step) → length (step F n s x .words) ≤ length (s .promises) + 2 * length (s .tasks)
+  the-words-have-room = counts.step-room F s n
 
 -- any two outcomes that the contract of a step allows coincide
 pub one-outcome : {o : Outcome} {rs : List ℕ} {a a′ : Answer} {ts ts′ ps ps′ after after′ : List ℕ} → Gives o rs a ts ps after → Gives o rs a′ ts′ ps′ after′

@@ -2,8 +2,9 @@
 --
 --   numberOf a    a refusal's number; for any other answer a number of ours, from 100 on
 --   valuesOf a    the counts and numbers that the answer carries, in the order of the answer line
+--   wordCount a   how many words of the report are the answer's own
 -- Assumes nothing.
-use Prim.Native.Nat.{ℕ}
+use Prim.Native.Nat.{ℕ, _+_, _*_}
 use mathlib.Core.List.{List, [], _∷_}
 use Rattle.rules.specs.declared.Answer.{Answer}
 use Rattle.rules.specs.declared.Answer.the-variants.{Opened, Made, Set, Value, Blamed, Waits, Cycle, Started, Ended, Refused, RefusedAt}
@@ -33,3 +34,16 @@ valuesOf Started = []
 valuesOf (Ended m n) = m ∷ n ∷ []
 valuesOf (Refused r) = []
 valuesOf (RefusedAt r i) = i ∷ []
+
+unfoldable pub wordCount : Answer → ℕ
+wordCount Opened = 0
+wordCount Made = 0
+wordCount (Set n) = n
+wordCount Value = 0
+wordCount (Blamed b) = 0
+wordCount (Waits k) = 0
+wordCount (Cycle k) = 2 * k
+wordCount Started = 0
+wordCount (Ended m n) = m + n
+wordCount (Refused r) = 0
+wordCount (RefusedAt r i) = 0

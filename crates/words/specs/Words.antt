@@ -5,6 +5,7 @@
 --   firstWait, firstOwned                          the word that waits on promise 0, the word owned by task 0
 --   Form, small                                    where the blamed words begin, and the limits
 --   sizesInBounds F T P, inBounds F T P n          T and P are within their bounds; and so is the report's length n
+--   mostRecords                                    the most steps of a batch
 --   lastLine                                       the largest number of a line
 -- Assumes nothing.
 use Prim.Native.Nat.{ℕ, _+_, _*_}
@@ -72,6 +73,12 @@ sizesInBounds F T P = leb 1 T && leb T (F .mostTasks) && leb P (F .mostPromises)
 -- "and a report of at least P + 2T words"
 unfoldable pub inBounds : Form → ℕ → ℕ → ℕ → Bool
 inBounds F T P n = sizesInBounds F T P && leb (P + 2 * T) n
+
+-- ---- the batch
+
+-- "a lent slice of step records, at most 256"
+abbrev pub mostRecords : ℕ
+mostRecords = 256
 
 -- ---- the lines
 

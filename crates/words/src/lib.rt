@@ -98,6 +98,9 @@ impl Limit {
     // The words of a report that has room for every answer: P + 2T.
     pub const REPORT: usize = 384;
 
+    // The records of a batch.
+    pub const RECORDS: usize = 256;
+
     // The bytes of an answer line that has room for every answer.
     pub const ANSWER: usize = 2048;
 

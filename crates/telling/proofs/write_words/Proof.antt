@@ -1,6 +1,6 @@
 use borrow.Author.Needs.{needs}
-use Rattle.registry.proofs.write_words.Statement.{statement}
-use Rattle.registry.proofs.write_words.Tie as tie
+use Rattle.telling.proofs.write_words.Statement.{statement}
+use Rattle.telling.proofs.write_words.Tie as tie
 
 put-requires : tie.Need-put-requires
 put-requires c κs = search needs

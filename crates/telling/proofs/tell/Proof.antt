@@ -1,9 +1,9 @@
 use mathlib.Core.Path.{refl}
 use Rattle.rules.specs.Answers.{numberOf, valuesOf}
-use Rattle.registry.specs.Exports.{answerWords}
+use Rattle.telling.specs.AnswerWords.{answerWords}
 use borrow.Author.Needs.{needs}
-use Rattle.registry.proofs.tell.Statement.{statement}
-use Rattle.registry.proofs.tell.Tie as tie
+use Rattle.telling.proofs.tell.Statement.{statement}
+use Rattle.telling.proofs.tell.Tie as tie
 
 enum-told : tie.Need-enum-told
 enum-told c = search needs

@@ -1,0 +1,2 @@
+pub mod record_at
+pub mod batch

@@ -1,0 +1,4 @@
+pub mod Elems
+pub mod Carried
+pub mod Kit
+pub mod Worked
