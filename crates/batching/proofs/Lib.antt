@@ -1,4 +1,5 @@
 pub mod Elems
 pub mod Carried
 pub mod Kit
+pub mod BatchLaws
 pub mod Worked

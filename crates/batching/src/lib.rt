@@ -30,15 +30,15 @@ pub fn record_at(records: &[Record], i: usize) -> Record
 fn has_room(tasks: usize, promises: usize, records: usize, report: usize, answers: usize) -> bool
     ensures { λ r. ⌜ r ≡ hasRoom small tasks promises records report answers ⌝ }
 {
-    if !sizes_in_bounds(tasks, promises) {
-        return false;
-    }
     if Limit::RECORDS < records {
         return false;
     }
-    let reported = records * (promises + 2 * tasks) <= report;
-    let answered = 4 * records <= answers;
-    reported & answered
+    if sizes_in_bounds(tasks, promises) {
+        let reported = records * (promises + 2 * tasks) <= report;
+        let answered = 4 * records <= answers;
+        return reported & answered;
+    }
+    false
 }
 
 // Refusal 1 or 2 of the call, or 0; of the records, the report and the answers the lengths are told.
@@ -51,13 +51,13 @@ fn call_refusal(
 ) -> u16
     ensures { λ r. ⌜ r ≡ first (callRows small (tablesOf (now (tasks .entry)) (now (promises .entry))) records report answers) ⌝ }
 {
-    if !has_room(tasks.len(), promises.len(), records, report, answers) {
-        return 1;
+    if has_room(tasks.len(), promises.len(), records, report, answers) {
+        if is_sound(tasks, promises) {
+            return 0;
+        }
+        return 2;
     }
-    if is_sound(tasks, promises) {
-        return 0;
-    }
-    2
+    1
 }
 
 // The call: for tables, a report and answers of any lengths, with any words in them, and any records and list.

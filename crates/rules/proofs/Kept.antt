@@ -19,7 +19,7 @@ use Rattle.rules.specs.Demands.{Apart, Good}
 use Rattle.rules.proofs.Accepted.{Took, stayed, moved, guarded-is, took-raw}
 use Rattle.rules.proofs.Moves.{sound-step}
 use Rattle.rules.proofs.RefusalLaws.{first-none, not-is-false}
-use Rattle.rules.proofs.SoundTest.{soundTest-sound}
+use Rattle.rules.proofs.SoundTest.{soundTest-sound, sound-soundTest}
 
 module _ (F : Form) (apart : Apart F) (n : ℕ) where
   -- the owned words of tables within their bounds end before the blamed ones begin
@@ -59,9 +59,17 @@ module _ (F : Form) (apart : Apart F) (n : ℕ) where
   lengths-by s s′ t (stayed e) = (ap (λ (x : Tables). length (x .tasks)) e, ap (λ (x : Tables). length (x .promises)) e)
   lengths-by s s′ t (moved e g st) = (e, g)
 
+  pub step-lengths : (s : Tables) (x : Step) → (length (step F n s x .after .tasks) ≡ length (s .tasks)) × (length (step F n s x .after .promises) ≡ length (s .promises))
+  step-lengths s x = lengths-by s (step F n s x .after) (actor x) (took-step s x)
+
+  -- refusals 1 and 2 are not given to good tables
+  pub good-passes : (s : Tables) → Good F n s → first (tableRows F n s) ≡ 0
+  unfolding first
+  good-passes s g = rw (g .bounds, sound-soundTest (F .base) s (g .sound)) refl
+
   pub good-step : (s : Tables) (x : Step) → Good F n s → Good F n (step F n s x .after)
   good-step s x g =
-      let (a, b) = lengths-by s (step F n s x .after) (actor x) (took-step s x) in
+      let (a, b) = step-lengths s x in
       record {
         bounds = subst₂ (λ (i j : ℕ). inBounds F i j n ≡ true) (sym a) (sym b) (g .bounds);
         sound = sound-kept s (g .sound) x;
