@@ -1,0 +1,273 @@
+//! Sweeps of batches: cases that go through every edge of a call, and pairs of steps, in order.
+
+use crate::batch_case::BatchCase;
+use crate::part_sweeps;
+use crate::random::Random;
+use crate::sound::{blamed_on, chain, owned_by, waits_on, Words, ENDED, READY, SET};
+use model::batch::{ANSWER_WORDS, ASYNC, END, GET, NEW, RECORD_WORDS};
+use model::Model;
+use std::ops::ControlFlow;
+
+/// Takes each batch with the name of its sweep, until it breaks off.
+pub type Visit<'a> = dyn FnMut(&'static str, BatchCase) -> ControlFlow<()> + 'a;
+
+/// The words of one record.
+pub type Record = [u16; RECORD_WORDS];
+
+/// Every sweep.
+pub fn sweep_batches(visit: &mut Visit) -> ControlFlow<()> {
+    sweep_short_batches(visit)?;
+    part_sweeps::parts(visit)?;
+    tiny_pairs(visit)?;
+    every_kind(visit)?;
+    full_batches(visit)?;
+    too_many_records(visit)
+}
+
+/// The first sweeps, short enough for a slow checker.
+pub fn sweep_short_batches(visit: &mut Visit) -> ControlFlow<()> {
+    lengths(visit)?;
+    sizes(visit)?;
+    rooms(visit)?;
+    damages(visit)?;
+    pairs(visit)?;
+    part_sweeps::long_lists(visit)
+}
+
+/// Words that stand for any: no two neighbours are equal, and none is 0.
+fn marked(length: usize, from: usize) -> Vec<u16> {
+    (0..length).map(|place| (from + 7 * (place % 1000)) as u16).collect()
+}
+
+/// A batch with this much room, in words past what its records need or, if negative, short of it.
+pub fn roomy(words: &Words, records: &[Record], list: &[u16], report: isize, answers: isize) -> BatchCase {
+    let one = words.promises.len() + 2 * words.tasks.len();
+    let room = |needed: usize, more: isize| needed.saturating_add_signed(more);
+    BatchCase {
+        report: marked(room(records.len() * one, report), 40000),
+        answers: marked(room(records.len() * ANSWER_WORDS, answers), 50000),
+        tasks: words.tasks.clone(),
+        promises: words.promises.clone(),
+        steps: records.concat(),
+        list: list.to_vec(),
+    }
+}
+
+/// A batch with room for three report words and five answer words more than it needs.
+pub fn batch(words: &Words, records: &[Record], list: &[u16]) -> BatchCase {
+    roomy(words, records, list, 3, 5)
+}
+
+/// Tables in which every kind of step finds something to do: tasks 0 and 1 are ready, 2 and 3 wait,
+/// 4 has ended, 5 was never used.
+fn rich_tables() -> Words {
+    Words {
+        tasks: vec![READY, READY, waits_on(1), waits_on(2), ENDED, 0],
+        promises: vec![owned_by(0), owned_by(1), owned_by(2), SET, blamed_on(4), 0, owned_by(3), owned_by(0)],
+    }
+}
+
+/// Records that get every answer and every refusal of a step from the rich tables and list 0 7 0.
+const RICH_LIST: [u16; 6] = [0, 7, 0, 1, 5, 3];
+const RICH: [Record; 31] = [
+    [NEW, 0, 5, 0, 0],
+    [NEW, 1, 5, 9, 9],
+    [NEW, 0, 8, 0, 0],
+    [NEW, 0, 3, 0, 0],
+    [NEW, 6, 5, 0, 0],
+    [NEW, 5, 5, 0, 0],
+    [NEW, 2, 5, 0, 0],
+    [1, 0, 0, 0, 0],
+    [1, 1, 1, 0, 7],
+    [1, 2, 2, 0, 0],
+    [1, 0, 1, 0, 0],
+    [1, 0, 3, 0, 0],
+    [1, 0, 5, 0, 0],
+    [GET, 0, 0, 0, 0],
+    [GET, 0, 6, 0, 0],
+    [GET, 1, 6, 7, 0],
+    [GET, 1, 0, 0, 0],
+    [GET, 0, 3, 0, 0],
+    [GET, 0, 4, 0, 0],
+    [GET, 4, 4, 0, 0],
+    [ASYNC, 0, 5, 0, 2],
+    [ASYNC, 0, 5, 0, 3],
+    [ASYNC, 0, 5, 6, 0],
+    [ASYNC, 0, 4, 0, 1],
+    [ASYNC, 0, 6, 0, 1],
+    [ASYNC, 0, 5, 2, 4],
+    [ASYNC, 0, 5, 5, 1],
+    [ASYNC, 0, 5, 1, 6],
+    [ASYNC, 2, 5, 7, 0],
+    [END, 0, 9, 0, 0],
+    [END, 1, 0, 65535, 65535],
+];
+
+/// Every pair of rich records, and each record between others that report.
+fn pairs(visit: &mut Visit) -> ControlFlow<()> {
+    let words = rich_tables();
+    for first in RICH {
+        let alarm = [GET, 1, 6, 0, 0];
+        let wake = [1, 1, 1, 0, 0];
+        visit("between reports", batch(&words, &[alarm, first, alarm, first, wake, first, alarm], &RICH_LIST))?;
+        for second in RICH {
+            visit("pairs", batch(&words, &[first, second], &RICH_LIST))?;
+            visit("threes", batch(&words, &[first, second, first], &RICH_LIST))?;
+        }
+    }
+    ControlFlow::Continue(())
+}
+
+/// Every length of the steps up to a few records.
+fn lengths(visit: &mut Visit) -> ControlFlow<()> {
+    let words = rich_tables();
+    let all: Vec<u16> = RICH.concat();
+    for length in 0..=26 {
+        for more in [0, 1, 200] {
+            let mut case = roomy(&words, &RICH[..length / RECORD_WORDS], &RICH_LIST, more, more);
+            case.steps = all[..length].to_vec();
+            visit("lengths", case)?;
+        }
+    }
+    ControlFlow::Continue(())
+}
+
+/// T and P at and around their bounds, with no, one and two records.
+fn sizes(visit: &mut Visit) -> ControlFlow<()> {
+    for tasks in [0, 1, 2, 63, 64, 65, 66, 128] {
+        for promises in [0, 1, 2, 255, 256, 257, 258, 512] {
+            let fresh = Words::fresh(tasks, promises);
+            let mut damaged = fresh.clone();
+            damaged.promises[..promises.min(1)].fill(3);
+            let last = promises.saturating_sub(1) as u16;
+            let records = [[NEW, 0, last, 0, 0], [GET, 0, last, 0, 0]];
+            for count in 0..=2 {
+                for words in [&fresh, &damaged] {
+                    visit("sizes", batch(words, &records[..count], &[]))?;
+                }
+            }
+        }
+    }
+    ControlFlow::Continue(())
+}
+
+/// Reports and answers just long enough, shorter and longer, for sound tables and damaged ones.
+fn rooms(visit: &mut Visit) -> ControlFlow<()> {
+    for (tasks, promises) in [(1, 0), (1, 1), (2, 3), (3, 5)] {
+        let one = (promises + 2 * tasks) as isize;
+        let fresh = Words::fresh(tasks, promises);
+        let mut damaged = fresh.clone();
+        damaged.tasks[tasks - 1] = 3;
+        for count in [0, 1, 2, 3, 7, 254, 255, 256, 257, 258] {
+            let records: Vec<Record> = (0..count).map(|i| [i % 3, 0, i % 5, 0, 0]).collect();
+            for words in [&fresh, &damaged] {
+                for report in [-one, -2, -1, 0, 1, 9] {
+                    visit("report room", roomy(words, &records, &[], report, 1))?;
+                }
+                for answers in [-3 * count as isize, -4, -1, 0, 1, 9] {
+                    visit("answers room", roomy(words, &records, &[], 1, answers))?;
+                }
+                visit("both short", roomy(words, &records, &[], -1, -1))?;
+            }
+        }
+    }
+    ControlFlow::Continue(())
+}
+
+/// Every word at an edge in every place of rich tables, with no record and with two.
+fn damages(visit: &mut Visit) -> ControlFlow<()> {
+    let rich = rich_tables();
+    let edges = [0, 1, 2, 3, 15, 16, 17, 18, 21, 22, 23, 24, 25, 79, 80, 84, 85, 86, 87, 255, 32768, 65535];
+    for word in edges {
+        for place in 0..rich.tasks.len() + rich.promises.len() {
+            let mut words = rich.clone();
+            match words.tasks.len() {
+                tasks if place < tasks => words.tasks[place] = word,
+                tasks => words.promises[place - tasks] = word,
+            }
+            visit("damage", batch(&words, &[], &[]))?;
+            visit("damage", batch(&words, &[[GET, 0, 3, 0, 0], [END, 1, 0, 0, 0]], &[]))?;
+            visit("damage and no room", roomy(&words, &[[GET, 0, 3, 0, 0]], &[], -1, 0))?;
+        }
+    }
+    ControlFlow::Continue(())
+}
+
+/// Every pair of records with numbers at most one past the tables, on all sound tables of two tasks and a promise.
+fn tiny_pairs(visit: &mut Visit) -> ControlFlow<()> {
+    let mut records: Vec<Record> = Vec::new();
+    for t in 0..=2 {
+        records.push([END, t, 0, 0, 0]);
+        for p in 0..=1 {
+            records.extend([[0, t, p, 0, 0], [1, t, p, 0, 0], [2, t, p, 0, 0]]);
+            records.extend([[ASYNC, t, p, 0, 1], [ASYNC, t, p, 1, 0], [ASYNC, t, p, 0, 2]]);
+        }
+    }
+    for first in [0, READY, ENDED, waits_on(0)] {
+        for second in [0, READY, ENDED, waits_on(0)] {
+            for promise in [0, SET, owned_by(0), owned_by(1), blamed_on(0), blamed_on(1)] {
+                let words = Words { tasks: vec![first, second], promises: vec![promise] };
+                if Model::PAPER.is_sound(&words.tasks, &words.promises) {
+                    every_pair(visit, &words, &records)?;
+                }
+            }
+        }
+    }
+    ControlFlow::Continue(())
+}
+
+fn every_pair(visit: &mut Visit, words: &Words, records: &[Record]) -> ControlFlow<()> {
+    for &first in records {
+        for &second in records {
+            visit("tiny pairs", batch(words, &[first, second], &[0]))?;
+        }
+    }
+    ControlFlow::Continue(())
+}
+
+/// Every kind word, in the first record and after a record that was carried out.
+fn every_kind(visit: &mut Visit) -> ControlFlow<()> {
+    let words = Words { tasks: vec![READY, 0], promises: vec![0, owned_by(0)] };
+    for kind in 0..=u16::MAX {
+        visit("every kind", batch(&words, &[[kind, 0, 1, 0, 0]], &[]))?;
+        if kind % 16 < 8 {
+            visit("every kind", batch(&words, &[[NEW, 0, 0, 0, 0], [kind, 0, 1, 0, 0]], &[]))?;
+        }
+    }
+    ControlFlow::Continue(())
+}
+
+/// Full batches over the largest tables: room to the word, room that 16 bits can't count, and much to report.
+fn full_batches(visit: &mut Visit) -> ControlFlow<()> {
+    for (tasks, promises) in [(64, 256), (64, 128), (63, 255)] {
+        let words = Words::fresh(tasks, promises);
+        let one = promises + 2 * tasks;
+        for count in [170, 171, 172, 255, 256, 257] {
+            let records: Vec<Record> = (0..count as u16).map(|i| [i / 128, 0, i % 128, 0, 0]).collect();
+            let rolled = (count * one) % 65536;
+            for report in [-(one as isize), -1, 0, 1, rolled as isize - (count * one) as isize] {
+                visit("full room", roomy(&words, &records, &[], report, 0))?;
+            }
+            visit("full answers", roomy(&words, &records, &[], 0, -1))?;
+        }
+    }
+    let mut r = Random::new(5);
+    for length in [1, 2, 3, 63, 64] {
+        let chain = chain(&mut r, 64, 256, length);
+        let alarm = [GET, chain.links[length - 1] as u16, chain.promises[0] as u16, 0, 0];
+        visit("256 alarms", roomy(&chain.words, &[alarm; 256], &[], 1, 1))?;
+        let mut records = vec![alarm; 100];
+        records.extend(chain.links.iter().rev().map(|&t| [END, t as u16, 0, 0, 0]));
+        visit("a chain taken apart", roomy(&chain.words, &records, &[], 1, 1))?;
+    }
+    ControlFlow::Continue(())
+}
+
+/// So many records that 16 bits can't count them, with room for all.
+fn too_many_records(visit: &mut Visit) -> ControlFlow<()> {
+    let words = Words::fresh(1, 0);
+    for count in [300, 512, 13_107, 13_108, 65_536, 65_537, 65_792] {
+        visit("too many records", batch(&words, &vec![[END, 0, 0, 0, 0]; count], &[]))?;
+    }
+    ControlFlow::Continue(())
+}
