@@ -4,7 +4,7 @@ use crate::batch_case::BatchCase;
 use crate::part_sweeps;
 use crate::random::Random;
 use crate::sound::{blamed_on, chain, owned_by, waits_on, Words, ENDED, READY, SET};
-use model::batch::{ANSWER_WORDS, ASYNC, END, GET, NEW, RECORD_WORDS};
+use model::batch::{ANSWER_WORDS, ASYNC, END, GET, NEW, RECORD_WORDS, SET as PUT};
 use model::Model;
 use std::ops::ControlFlow;
 
@@ -58,31 +58,31 @@ pub fn batch(words: &Words, records: &[Record], list: &[u16]) -> BatchCase {
     roomy(words, records, list, 3, 5)
 }
 
-/// Tables in which every kind of step finds something to do: tasks 0 and 1 are ready, 2 and 3 wait,
+/// Tables in which every kind of step finds something to do: tasks 0 and 1 are ready, 2, 3 and 6 wait,
 /// 4 has ended, 5 was never used.
 fn rich_tables() -> Words {
     Words {
-        tasks: vec![READY, READY, waits_on(1), waits_on(2), ENDED, 0],
+        tasks: vec![READY, READY, waits_on(1), waits_on(2), ENDED, 0, waits_on(1)],
         promises: vec![owned_by(0), owned_by(1), owned_by(2), SET, blamed_on(4), 0, owned_by(3), owned_by(0)],
     }
 }
 
-/// Records that get every answer and every refusal of a step from the rich tables and list 0 7 0.
+/// Records that get every answer and every refusal of a step from the rich tables and this list.
 const RICH_LIST: [u16; 6] = [0, 7, 0, 1, 5, 3];
 const RICH: [Record; 31] = [
     [NEW, 0, 5, 0, 0],
     [NEW, 1, 5, 9, 9],
     [NEW, 0, 8, 0, 0],
     [NEW, 0, 3, 0, 0],
-    [NEW, 6, 5, 0, 0],
+    [NEW, 7, 5, 0, 0],
     [NEW, 5, 5, 0, 0],
     [NEW, 2, 5, 0, 0],
-    [1, 0, 0, 0, 0],
-    [1, 1, 1, 0, 7],
-    [1, 2, 2, 0, 0],
-    [1, 0, 1, 0, 0],
-    [1, 0, 3, 0, 0],
-    [1, 0, 5, 0, 0],
+    [PUT, 0, 0, 0, 0],
+    [PUT, 1, 1, 0, 7],
+    [PUT, 2, 2, 0, 0],
+    [PUT, 0, 1, 0, 0],
+    [PUT, 0, 3, 0, 0],
+    [PUT, 0, 5, 0, 0],
     [GET, 0, 0, 0, 0],
     [GET, 0, 6, 0, 0],
     [GET, 1, 6, 7, 0],
@@ -94,7 +94,7 @@ const RICH: [Record; 31] = [
     [ASYNC, 0, 5, 0, 3],
     [ASYNC, 0, 5, 6, 0],
     [ASYNC, 0, 4, 0, 1],
-    [ASYNC, 0, 6, 0, 1],
+    [ASYNC, 0, 7, 0, 1],
     [ASYNC, 0, 5, 2, 4],
     [ASYNC, 0, 5, 5, 1],
     [ASYNC, 0, 5, 1, 6],
@@ -108,7 +108,7 @@ fn pairs(visit: &mut Visit) -> ControlFlow<()> {
     let words = rich_tables();
     for first in RICH {
         let alarm = [GET, 1, 6, 0, 0];
-        let wake = [1, 1, 1, 0, 0];
+        let wake = [PUT, 1, 1, 0, 0];
         visit("between reports", batch(&words, &[alarm, first, alarm, first, wake, first, alarm], &RICH_LIST))?;
         for second in RICH {
             visit("pairs", batch(&words, &[first, second], &RICH_LIST))?;
@@ -199,7 +199,7 @@ fn tiny_pairs(visit: &mut Visit) -> ControlFlow<()> {
     for t in 0..=2 {
         records.push([END, t, 0, 0, 0]);
         for p in 0..=1 {
-            records.extend([[0, t, p, 0, 0], [1, t, p, 0, 0], [2, t, p, 0, 0]]);
+            records.extend([[NEW, t, p, 0, 0], [PUT, t, p, 0, 0], [GET, t, p, 0, 0]]);
             records.extend([[ASYNC, t, p, 0, 1], [ASYNC, t, p, 1, 0], [ASYNC, t, p, 0, 2]]);
         }
     }
