@@ -80,7 +80,7 @@ impl Model {
         let records = lent.records();
         let known = |&kind: &u16| kind <= END;
         let fits = self.bent_tables_fit(lent.tasks.len(), lent.promises.len())
-            && (lent.steps.len() % RECORD_WORDS == 0 || self.bent_whole())
+            && (lent.steps.len().is_multiple_of(RECORD_WORDS) || self.bent_whole())
             && lent.steps.iter().step_by(RECORD_WORDS).all(|kind| known(kind) || self.bent_known(*kind))
             && records <= self.bent_most_records(MOST_RECORDS, records)
             && lent.report.len() >= self.bent_report_room(records * lent.step_room(), lent)
