@@ -2,8 +2,9 @@
 
 use crate::batch_case::BatchCase;
 use crate::part_sweeps;
-use crate::random::Random;
-use crate::sound::{blamed_on, chain, owned_by, waits_on, Words, ENDED, READY, SET};
+use crate::room_sweeps;
+use crate::sound::{blamed_on, owned_by, waits_on, Words, ENDED, READY, SET};
+use crate::sweeps::worth_a_look;
 use model::batch::{ANSWER_WORDS, ASYNC, END, GET, NEW, RECORD_WORDS, SET as PUT};
 use model::Model;
 use std::ops::ControlFlow;
@@ -20,15 +21,18 @@ pub fn sweep_batches(visit: &mut Visit) -> ControlFlow<()> {
     part_sweeps::parts(visit)?;
     tiny_pairs(visit)?;
     every_kind(visit)?;
-    full_batches(visit)?;
-    too_many_records(visit)
+    every_number(visit)?;
+    room_sweeps::every_size(visit)?;
+    room_sweeps::every_count(visit)?;
+    room_sweeps::full_batches(visit)?;
+    room_sweeps::too_many_records(visit)
 }
 
 /// The first sweeps, short enough for a slow checker.
 pub fn sweep_short_batches(visit: &mut Visit) -> ControlFlow<()> {
     lengths(visit)?;
-    sizes(visit)?;
-    rooms(visit)?;
+    room_sweeps::sizes(visit)?;
+    room_sweeps::rooms(visit)?;
     damages(visit)?;
     pairs(visit)?;
     part_sweeps::long_lists(visit)
@@ -132,48 +136,6 @@ fn lengths(visit: &mut Visit) -> ControlFlow<()> {
     ControlFlow::Continue(())
 }
 
-/// T and P at and around their bounds, with no, one and two records.
-fn sizes(visit: &mut Visit) -> ControlFlow<()> {
-    for tasks in [0, 1, 2, 63, 64, 65, 66, 128] {
-        for promises in [0, 1, 2, 255, 256, 257, 258, 512] {
-            let fresh = Words::fresh(tasks, promises);
-            let mut damaged = fresh.clone();
-            damaged.promises[..promises.min(1)].fill(3);
-            let last = promises.saturating_sub(1) as u16;
-            let records = [[NEW, 0, last, 0, 0], [GET, 0, last, 0, 0]];
-            for count in 0..=2 {
-                for words in [&fresh, &damaged] {
-                    visit("sizes", batch(words, &records[..count], &[]))?;
-                }
-            }
-        }
-    }
-    ControlFlow::Continue(())
-}
-
-/// Reports and answers just long enough, shorter and longer, for sound tables and damaged ones.
-fn rooms(visit: &mut Visit) -> ControlFlow<()> {
-    for (tasks, promises) in [(1, 0), (1, 1), (2, 3), (3, 5)] {
-        let one = (promises + 2 * tasks) as isize;
-        let fresh = Words::fresh(tasks, promises);
-        let mut damaged = fresh.clone();
-        damaged.tasks[tasks - 1] = 3;
-        for count in [0, 1, 2, 3, 7, 254, 255, 256, 257, 258] {
-            let records: Vec<Record> = (0..count).map(|i| [i % 3, 0, i % 5, 0, 0]).collect();
-            for words in [&fresh, &damaged] {
-                for report in [-one, -2, -1, 0, 1, 9] {
-                    visit("report room", roomy(words, &records, &[], report, 1))?;
-                }
-                for answers in [-3 * count as isize, -4, -1, 0, 1, 9] {
-                    visit("answers room", roomy(words, &records, &[], 1, answers))?;
-                }
-                visit("both short", roomy(words, &records, &[], -1, -1))?;
-            }
-        }
-    }
-    ControlFlow::Continue(())
-}
-
 /// Every word at an edge in every place of rich tables, with no record and with two.
 fn damages(visit: &mut Visit) -> ControlFlow<()> {
     let rich = rich_tables();
@@ -237,37 +199,20 @@ fn every_kind(visit: &mut Visit) -> ControlFlow<()> {
     ControlFlow::Continue(())
 }
 
-/// Full batches over the largest tables: room to the word, room that 16 bits can't count, and much to report.
-fn full_batches(visit: &mut Visit) -> ControlFlow<()> {
-    for (tasks, promises) in [(64, 256), (64, 128), (63, 255)] {
-        let words = Words::fresh(tasks, promises);
-        let one = promises + 2 * tasks;
-        for count in [170, 171, 172, 255, 256, 257] {
-            let records: Vec<Record> = (0..count as u16).map(|i| [i / 128, 0, i % 128, 0, 0]).collect();
-            let rolled = (count * one) % 65536;
-            for report in [-(one as isize), -1, 0, 1, rolled as isize - (count * one) as isize] {
-                visit("full room", roomy(&words, &records, &[], report, 0))?;
-            }
-            visit("full answers", roomy(&words, &records, &[], 0, -1))?;
+/// Numbers of every size in every place of a record, those included that its kind does not look at.
+fn every_number(visit: &mut Visit) -> ControlFlow<()> {
+    let words = rich_tables();
+    for n in (0..=u16::MAX).filter(|&n| worth_a_look(n)) {
+        let promises = [[GET, 0, n, 0, 0], [PUT, 1, n, 0, 0], [NEW, 0, n, 0, 0], [ASYNC, 0, 5, 6, 1]];
+        let tasks = [[GET, n, 3, 0, 0], [END, n, 0, 0, 0], [ASYNC, n, 5, 0, 1], [ASYNC, 0, n, 3, 0]];
+        let parts = [[ASYNC, 0, 4, n, 0], [ASYNC, 0, 4, n, 1], [ASYNC, 0, 4, 0, n], [ASYNC, 0, 4, 2, n]];
+        let unused = [[NEW, 0, 5, n, 0], [GET, 1, 5, 0, n], [PUT, 0, 5, n, n], [END, 1, n, n, n]];
+        let mut list = RICH_LIST;
+        list[5] = n;
+        for records in [promises, tasks, parts, unused] {
+            visit("every number", batch(&words, &records, &list[..]))?;
         }
-    }
-    let mut r = Random::new(5);
-    for length in [1, 2, 3, 63, 64] {
-        let chain = chain(&mut r, 64, 256, length);
-        let alarm = [GET, chain.links[length - 1] as u16, chain.promises[0] as u16, 0, 0];
-        visit("256 alarms", roomy(&chain.words, &[alarm; 256], &[], 1, 1))?;
-        let mut records = vec![alarm; 100];
-        records.extend(chain.links.iter().rev().map(|&t| [END, t as u16, 0, 0, 0]));
-        visit("a chain taken apart", roomy(&chain.words, &records, &[], 1, 1))?;
-    }
-    ControlFlow::Continue(())
-}
-
-/// So many records that 16 bits can't count them, with room for all.
-fn too_many_records(visit: &mut Visit) -> ControlFlow<()> {
-    let words = Words::fresh(1, 0);
-    for count in [300, 512, 13_107, 13_108, 65_536, 65_537, 65_792] {
-        visit("too many records", batch(&words, &vec![[END, 0, 0, 0, 0]; count], &[]))?;
+        visit("every entry", batch(&words, &[[ASYNC, 0, 5, 5, 1], [END, 0, 0, 0, 0]], &list))?;
     }
     ControlFlow::Continue(())
 }

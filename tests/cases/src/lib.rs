@@ -16,6 +16,7 @@ pub mod options;
 pub mod part_sweeps;
 pub mod progress;
 pub mod random;
+pub mod room_sweeps;
 pub mod shrink_batch;
 pub mod shrink_bytes;
 pub mod shrink_case;
