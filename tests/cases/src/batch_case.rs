@@ -59,7 +59,7 @@ impl BatchDifference {
     }
 }
 
-/// How many records are shown.
+/// How many runs of equal records are shown.
 const MOST_SHOWN: usize = 40;
 
 impl BatchCase {
@@ -79,8 +79,15 @@ impl BatchCase {
         text += &lent_words("list", &self.list);
         text += &lent_words("answers", &self.answers);
         text += &format!("  steps: {} words\n", self.steps.len());
-        for (index, record) in self.steps.chunks(RECORD_WORDS).enumerate().take(MOST_SHOWN) {
-            text += &format!("    record {index}: {record:?}\n");
+        let records: Vec<&[u16]> = self.steps.chunks(RECORD_WORDS).collect();
+        let mut start = 0;
+        for run in records.chunk_by(|a, b| a == b).take(MOST_SHOWN) {
+            let times = if run.len() > 1 { format!(", {} times", run.len()) } else { String::new() };
+            text += &format!("    record {start}: {:?}{times}\n", run[0]);
+            start += run.len();
+        }
+        if start < records.len() {
+            text += &format!("    and {} records more\n", records.len() - start);
         }
         text
     }

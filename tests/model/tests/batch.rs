@@ -1,7 +1,7 @@
 //! A batch, held to the paper's own run and to the edges that its request names.
 
 use model::batch::{Batch, ASYNC, END, GET, NEW, SET};
-use model::Model;
+use model::{Model, Step};
 
 const MARK: u16 = 7777;
 
@@ -173,4 +173,48 @@ fn a_passing_part_stops_nothing() {
     assert_eq!(lent.answers, [101, 0, 0, 0, 16, 0, 0, 0, 106, 1, 0, 0, 108, 1, 0, 0]);
     assert_eq!(lent.report[..4], [0, 0, 0, MARK]);
     assert_eq!((lent.tasks, lent.promises), (vec![2, 0], vec![80, 0]));
+}
+
+/// The steps of these records one by one, each with a report of its own: the words of all reports, and the answers.
+fn one_by_one(lent: &mut Lent, steps: &[[u16; 5]], list: &[u16]) -> (Vec<u16>, Vec<u16>) {
+    let (mut words, mut answers) = (Vec::new(), Vec::new());
+    for &[kind, t, other, start, length] in steps {
+        let (start, end) = (start as usize, start as usize + length as usize);
+        let step = match kind {
+            NEW => Step::New { t, p: other },
+            SET => Step::Set { t, p: other },
+            GET => Step::Get { t, p: other },
+            END => Step::End { t },
+            _ if end > list.len() => {
+                answers.extend([16, 0, 0, 0]);
+                continue;
+            }
+            _ => Step::Async { t, c: other, list: list[start..end].to_vec() },
+        };
+        let mut report = vec![0; lent.promises.len() + 2 * lent.tasks.len()];
+        let answer = Model::PAPER.step(&step, &mut lent.tasks, &mut lent.promises, &mut report);
+        words.extend(&report[..answer.report_words()]);
+        answers.extend(answer.words());
+    }
+    (words, answers)
+}
+
+#[test]
+fn the_same_steps_one_by_one() {
+    let mut state = 1u32;
+    let mut below = |limit: u32| {
+        state = state.wrapping_mul(1_664_525).wrapping_add(1_013_904_223);
+        (((state >> 16) * limit) >> 16) as u16
+    };
+    let list = [0, 1, 2, 0, 3];
+    for _ in 0..3_000 {
+        let steps: Vec<[u16; 5]> = (0..below(14)).map(|_| [below(5), below(4), below(4), below(7), below(4)]).collect();
+        let mut expected = Lent::fresh(3, 3, 9 * steps.len() + 2, 4 * steps.len() + 2);
+        let mut found = expected.clone();
+        let (words, answers) = one_by_one(&mut expected, &steps, &list);
+        expected.report[..words.len()].copy_from_slice(&words);
+        expected.answers[..answers.len()].copy_from_slice(&answers);
+        assert_eq!(found.call(&steps, &list), 0);
+        assert_eq!(found, expected, "{steps:?}");
+    }
 }
