@@ -18,14 +18,14 @@ pub type Record = [u16; RECORD_WORDS];
 /// Every sweep.
 pub fn sweep_batches(visit: &mut Visit) -> ControlFlow<()> {
     sweep_short_batches(visit)?;
+    room_sweeps::too_many_records(visit)?;
+    room_sweeps::full_batches(visit)?;
     part_sweeps::parts(visit)?;
-    tiny_pairs(visit)?;
     every_kind(visit)?;
     every_number(visit)?;
+    tiny_pairs(visit)?;
     room_sweeps::every_size(visit)?;
-    room_sweeps::every_count(visit)?;
-    room_sweeps::full_batches(visit)?;
-    room_sweeps::too_many_records(visit)
+    room_sweeps::every_count(visit)
 }
 
 /// The first sweeps, short enough for a slow checker.
