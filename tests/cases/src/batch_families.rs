@@ -190,7 +190,7 @@ fn wild_records(r: &mut Random) -> BatchCase {
     let mut steps = Vec::new();
     let records = r.below(9);
     for _ in 0..records {
-        let kind = if r.once_in(60) { END + 1 + r.number(2) % 1000 } else { r.below(5) as u16 };
+        let kind = if r.once_in(40) { unknown_kind(r) } else { r.below(5) as u16 };
         let other = if kind == ASYNC { r.number(tasks) } else { r.number(promises) };
         steps.extend([kind, r.number(tasks), other, r.number(list_length), r.number(list_length)]);
     }
@@ -202,6 +202,12 @@ fn wild_records(r: &mut Random) -> BatchCase {
     case.report = r.words((records + 1) * (promises + 2 * tasks));
     case.answers = r.words(4 * (records + 1));
     BatchCase { steps, list, ..case }
+}
+
+/// A kind word above the last one, some of which are a kind in their lower 8 bits.
+fn unknown_kind(r: &mut Random) -> u16 {
+    let any = (END + 1).max(r.bits() as u16);
+    r.pick(&[END + 1, END + 1, END + 2, 255, 256, 257, 258, 259, 260, 261, 32768, 65535, any])
 }
 
 /// As many records as a batch may have, or nearly, mostly over the largest tables.

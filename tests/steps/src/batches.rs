@@ -22,7 +22,7 @@ use library_batch::LibraryBatch;
 use std::ops::ControlFlow;
 
 const FIXED_SEED: u64 = 3;
-const USUAL_CASES: u64 = 8_000;
+const USUAL_CASES: u64 = 6_000;
 const SMALL_CASES: u64 = 60;
 
 fn main() {
