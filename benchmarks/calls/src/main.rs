@@ -2,7 +2,9 @@
 //!
 //! Nanoseconds per call, median of several runs that take turns. Before each call
 //! the tables are put back; what that takes is measured too and left out.
+//! Then whole batches against the library's own single calls.
 
+mod batches;
 mod scenes;
 mod sides;
 mod timing;
@@ -13,6 +15,8 @@ use timing::median_nanoseconds;
 
 const SIZES: [(usize, usize); 3] = [(4, 8), (16, 64), (64, 256)];
 const CHAINS: [usize; 3] = [1, 8, 63];
+/// How many calls are timed in a row.
+const CALLS: u32 = 4_000;
 
 fn main() {
     println!("nanoseconds per call; a chain of k means that get finds k owners");
@@ -28,6 +32,7 @@ fn main() {
             }
         }
     }
+    batches::table();
 }
 
 fn measure(tasks: &[u16], promises: &[u16], chain: usize, call: &Call) {
@@ -44,6 +49,7 @@ fn measure(tasks: &[u16], promises: &[u16], chain: usize, call: &Call) {
     assert_eq!(plain_number, call.expected_number(), "{call:?} does not show what it is meant to");
 
     let [library, plain, untested] = median_nanoseconds(
+        CALLS,
         &mut lent,
         &|lent| lent.put_back(tasks, promises),
         [&|lent| library_call(lent, call), &|lent| plain_call(lent, call, true), &|lent| plain_call(lent, call, false)],

@@ -124,18 +124,30 @@ impl Difference {
                     ("promises", &expected.1.promises, &found.1.promises),
                     ("report", &expected.1.report, &found.1.report),
                 ] {
-                    let differing = || left.iter().zip(right).enumerate().filter(|(_, (l, r))| l != r);
-                    for (place, (l, r)) in differing().take(MOST_SHOWN) {
-                        text += &format!("    {name}[{place}]: {l} / {r}\n");
-                    }
-                    if differing().count() > MOST_SHOWN {
-                        text += &format!("    {name}: {} words differ in all\n", differing().count());
-                    }
+                    text += &differing_words(name, left, right);
                 }
                 text
             }
         }
     }
+}
+
+/// The first words in which two tables of this name differ.
+pub(crate) fn differing_words(name: &str, left: &[u16], right: &[u16]) -> String {
+    let mut text = String::new();
+    let differing = || left.iter().zip(right).enumerate().filter(|(_, (l, r))| l != r);
+    for (place, (l, r)) in differing().take(MOST_SHOWN) {
+        text += &format!("    {name}[{place}]: {l} / {r}\n");
+    }
+    if differing().count() > MOST_SHOWN {
+        text += &format!("    {name}: {} words differ in all\n", differing().count());
+    }
+    text
+}
+
+/// A line on some lent words: how many, and those that are not 0.
+pub(crate) fn lent_words(name: &str, words: &[u16]) -> String {
+    format!("  {name}: {} words, 0 but for:{}\n", words.len(), short(&runs(words)))
 }
 
 impl Case {
@@ -147,7 +159,7 @@ impl Case {
             ("report", &self.lent.report),
             ("answer", &self.lent.answer),
         ] {
-            text += &format!("  {name}: {} words, 0 but for:{}\n", words.len(), short(&runs(words)));
+            text += &lent_words(name, words);
         }
         for (index, step) in self.steps.iter().enumerate() {
             text += &format!("  step {index}: {}\n", short(&format!("{step:?}")));

@@ -1,6 +1,11 @@
 //! Cases for the registry: made at random and in sweeps, compared and shrunk.
 
 pub mod bad_lines;
+pub mod batch_case;
+pub mod batch_families;
+pub mod batch_model;
+pub mod batch_sweeps;
+pub mod batch_writer;
 pub mod case;
 pub mod column_sweeps;
 pub mod damage;
@@ -8,8 +13,11 @@ pub mod families;
 pub mod long_lines;
 pub mod model_subject;
 pub mod options;
+pub mod part_sweeps;
 pub mod progress;
 pub mod random;
+pub mod room_sweeps;
+pub mod shrink_batch;
 pub mod shrink_bytes;
 pub mod shrink_case;
 pub mod sound;

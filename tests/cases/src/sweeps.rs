@@ -222,7 +222,7 @@ fn small_sound_tables(visit: &mut Visit) -> ControlFlow<()> {
 }
 
 /// Whether a number is near an edge, or one of those that stand for the others.
-fn worth_a_look(n: u16) -> bool {
+pub(crate) fn worth_a_look(n: u16) -> bool {
     !(1_000..=64_500).contains(&n) || n.is_multiple_of(7)
 }
 

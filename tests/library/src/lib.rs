@@ -6,6 +6,12 @@
 //! for a list entry. Accepted answers: 101 made, 102 set, 103 value, 104 blamed,
 //! 105 waits, 106 cycle, 107 started, 108 ended. If fewer than four answer words
 //! are lent, a step returns 1 and writes nothing.
+//!
+//! A batch takes records of five words: the kind (0 new, 1 set, 2 get, 3 async, 4 end), the
+//! acting task, the promise or child, and for async the start and the length of its part of the
+//! list. It writes four words per record as the single steps do, 16 being the refusal of a part
+//! that passes the list's end, and the steps' report words one after another. It returns 0, or 1
+//! or 2 if the whole call was refused with nothing written.
 
 mod c {
     macro_rules! step {
@@ -29,6 +35,20 @@ mod c {
     step!(registry_step_end(t: u16));
 
     extern "C" {
+        pub fn registry_batch(
+            tasks: *mut u16,
+            task_count: usize,
+            promises: *mut u16,
+            promise_count: usize,
+            report: *mut u16,
+            report_length: usize,
+            steps: *const u16,
+            steps_length: usize,
+            list: *const u16,
+            list_length: usize,
+            answers: *mut u16,
+            answers_length: usize,
+        ) -> u16;
         pub fn registry_is_sound(
             tasks: *const u16,
             task_count: usize,
@@ -89,6 +109,34 @@ pub fn step_async(
             list.len(),
             answer.as_mut_ptr(),
             answer.len(),
+        )
+    }
+}
+
+/// 0 if the batch was carried out, else the refusal of the whole call.
+pub fn batch(
+    tasks: &mut [u16],
+    promises: &mut [u16],
+    report: &mut [u16],
+    steps: &[u16],
+    list: &[u16],
+    answers: &mut [u16],
+) -> u16 {
+    // SAFETY: each pointer goes with the length of the slice it was taken from.
+    unsafe {
+        c::registry_batch(
+            tasks.as_mut_ptr(),
+            tasks.len(),
+            promises.as_mut_ptr(),
+            promises.len(),
+            report.as_mut_ptr(),
+            report.len(),
+            steps.as_ptr(),
+            steps.len(),
+            list.as_ptr(),
+            list.len(),
+            answers.as_mut_ptr(),
+            answers.len(),
         )
     }
 }

@@ -47,6 +47,16 @@ impl Answer {
         }
     }
 
+    /// How many words the step with this answer writes to its report.
+    pub fn report_words(self) -> usize {
+        match self {
+            Answer::Set(woken) => woken,
+            Answer::Cycle(owners) => 2 * owners,
+            Answer::Ended(omitted, woken) => omitted + woken,
+            _ => 0,
+        }
+    }
+
     /// The word by which a line names the answer of this number.
     pub fn name(number: u16) -> &'static str {
         match number {

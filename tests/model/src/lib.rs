@@ -6,8 +6,12 @@
 //! at the one place it bends; with [`Twist::None`] this is the paper's registry.
 
 mod answer;
+pub mod batch;
 mod bench;
+mod bent_batch;
+mod bent_call;
 mod bent_column;
+mod bent_part;
 mod column;
 mod fields;
 mod line;

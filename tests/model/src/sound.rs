@@ -26,7 +26,7 @@ impl Model {
     /// The meanings of sound tables; nothing if they are damaged.
     pub(crate) fn read_sound(&self, tasks: &[u16], promises: &[u16]) -> Option<Tables> {
         let tables = self.read_tables(tasks, promises)?;
-        self.meanings_are_sound(&tables).then_some(tables)
+        (self.meanings_are_sound(&tables) || self.is(Twist::CallDamagePasses)).then_some(tables)
     }
 
     fn meanings_are_sound(&self, tables: &Tables) -> bool {

@@ -9,6 +9,8 @@ pub enum Shows {
     InLines,
     /// In the answer to about a million lines.
     InFull,
+    /// In a batch of steps.
+    InBatches,
 }
 
 macro_rules! twists {
@@ -176,4 +178,93 @@ twists! {
     FullEarly, InFull, "full comes a line early";
     FullNumbered, InFull, "full has a line number";
     FullWithoutLine, InFull, "full comes without a millionth line";
+
+    // The call of a batch: its lengths, its kinds and its tables.
+    CallTakesNoTasks, InBatches, "a batch may be lent no tasks";
+    CallTakes65Tasks, InBatches, "a batch may be lent 65 tasks";
+    CallRefuses64Tasks, InBatches, "a batch may not be lent 64 tasks";
+    CallRefusesNoPromises, InBatches, "a batch may not be lent 0 promises";
+    CallTakes257Promises, InBatches, "a batch may be lent 257 promises";
+    CallRefuses256Promises, InBatches, "a batch may not be lent 256 promises";
+    Takes257Records, InBatches, "a batch may have 257 records";
+    RecordsInSixteenBits, InBatches, "records are counted in 16 bits";
+    Refuses256Records, InBatches, "a batch may not have 256 records";
+    RoomForOneRecord, InBatches, "the report needs room for one record only";
+    RoomWithoutLast, InBatches, "the report needs no room for the last record";
+    RoomCountsTasksOnce, InBatches, "the report needs P + T words per record";
+    RoomOneWordMore, InBatches, "the report needs one word more";
+    RoomOneWordLess, InBatches, "the report may be one word short for all records";
+    RoomInSixteenBits, InBatches, "the report's room is counted in 16 bits";
+    AnswersOneWordEach, InBatches, "the answers need one word per record";
+    AnswersOneWordMore, InBatches, "the answers need one word more";
+    AnswersOneWordLess, InBatches, "the answers may be one word short";
+    RemainderIgnored, InBatches, "words after the last whole record are passed over";
+    KindFivePasses, InBatches, "kind 5 is taken for end";
+    KindInEightBits, InBatches, "kinds are taken in 8 bits";
+    KindRefusesStep, InBatches, "an unknown kind gives 1 for its step alone";
+    KindTestedLate, InBatches, "an unknown kind refuses the call once earlier steps are carried out";
+    UnusedMustBeZero, InBatches, "start and length must be 0 but for async";
+    CallDamageIsOne, InBatches, "damaged tables are 1 for the call";
+    CallDamageFirst, InBatches, "2 comes before 1 for the call";
+    CallDamagePasses, InBatches, "steps are carried out on damaged tables";
+    DamageAnswersEach, InBatches, "damaged tables are 2 for each step and not for the call";
+    NoRecordsNoBounds, InBatches, "nothing is measured if there are no records";
+    NoRecordsNoDamage, InBatches, "soundness is not tested if there are no records";
+    NoRecordsRefused, InBatches, "a batch without records is refused";
+    RefusedCallAnswers, InBatches, "a refused call writes its number to the answers";
+    DamagedCallAnswers, InBatches, "a call refused for damage answers every step";
+    RefusedCallReports, InBatches, "a refused call writes to the report";
+
+    // What the steps of a batch do, answer and report.
+    StopsAtRefused, InBatches, "the batch stops at the first refused step";
+    StopsAtPart, InBatches, "the batch stops at the first 16";
+    StopsAtAlarm, InBatches, "the batch stops at the first cycle";
+    FirstCarriedOut, InBatches, "the first step is carried out, later ones are only answered";
+    TablesAsLent, InBatches, "each step finds the tables as lent";
+    TablesKept, InBatches, "answers and words are right but no table is written";
+    RefusedPutsBack, InBatches, "a refused step puts back the tables as lent";
+    NextTwice, InBatches, "the step after a refused one is taken twice";
+    LastLeftOut, InBatches, "the last step is left out";
+    TakenBackwards, InBatches, "the steps are taken from the last to the first";
+    ReportAtStride, InBatches, "each record's words stand P + 2T after the ones before";
+    ReportFromStart, InBatches, "each step's words are written from the report's start";
+    ReportInEightBits, InBatches, "places in the report are taken in 8 bits";
+    GapAfterRefused, InBatches, "a refused step leaves a gap in the report";
+    GapAfterPart, InBatches, "a 16 leaves a gap in the report";
+    GapAfterSilent, InBatches, "an accepted step without report words leaves a gap";
+    ReportTailCleared, InBatches, "report words past the last one given are cleared";
+    ReportEndMarked, InBatches, "a word past the last one given is written to the report";
+    ValuesUncleared, InBatches, "unused values of an answer stay as they were";
+    ValuesUntold, InBatches, "answers have their numbers alone";
+    AnswersAtIndex, InBatches, "record i's answer is at word i";
+    AnswersInEightBits, InBatches, "places in the answers are taken in 8 bits";
+    AnswersTailCleared, InBatches, "answers past the last are cleared";
+    AnswersPastLast, InBatches, "one answer past the last is written";
+    AnswersEndMarked, InBatches, "a word past the last answer is written";
+
+    // The parts of a batch's list.
+    PartAfterThree, InBatches, "16 comes after 3";
+    PartAfterFive, InBatches, "16 comes after 5";
+    PartAfterChild, InBatches, "16 comes after 12";
+    PartAfterEntries, InBatches, "16 comes after the entries that there are";
+    PartIsThirteen, InBatches, "a part that passes the list's end gives 13";
+    PartTellsStart, InBatches, "16 tells the part's start";
+    PartRefusesCall, InBatches, "16 is given for the whole call";
+    PartRefusesCallByOne, InBatches, "a part that passes the list's end is 1 for the call";
+    PartForAllKinds, InBatches, "16 is given for every kind of step";
+    PartByStart, InBatches, "16 looks at the start alone";
+    PartByLength, InBatches, "16 looks at the length alone";
+    PartOneEarly, InBatches, "a part may not end where the list does";
+    PartOneLate, InBatches, "a part may pass the list's end by one";
+    EmptyPartPasses, InBatches, "an empty part may start past the list's end";
+    EmptyPartIsPassing, InBatches, "an empty part gives 16";
+    PartSumRollsOver, InBatches, "start plus length rolls over at 65536";
+    PartListRollsOver, InBatches, "the list's length is taken in 16 bits for 16";
+    PartCutOff, InBatches, "a part is cut off where the list ends";
+    PartTakenAnyway, InBatches, "16 is answered and the step is carried out";
+    PartFromListStart, InBatches, "a part is taken from the list's start";
+    PartToListEnd, InBatches, "a part runs to the list's end";
+    PartLengthIsEnd, InBatches, "a part's length is taken for its end";
+    PartSwapped, InBatches, "a part's start and length are swapped";
+    PartPlacesFromList, InBatches, "places are counted from the list's start";
 }

@@ -39,7 +39,7 @@ struct Check {
 fn main() {
     let small = present("--small");
     let seed = number_after("--seed").unwrap_or(FIXED_SEED);
-    signals::tell_the_case_on_a_crash();
+    signals::tell_the_case_on_a_crash("steps");
     let mut check = Check {
         model: ModelSubject::paper(),
         library: if small { LibrarySubject::exact() } else { LibrarySubject::guarded() },

@@ -1,7 +1,9 @@
 //! Tells which case was under way when the library crashed or did not come back.
 
 use std::sync::atomic::{AtomicBool, AtomicU64, Ordering};
+use std::sync::OnceLock;
 
+static PROGRAM: OnceLock<&'static str> = OnceLock::new();
 static CASE: AtomicU64 = AtomicU64::new(0);
 static IN_SWEEP: AtomicBool = AtomicBool::new(false);
 
@@ -17,9 +19,10 @@ extern "C" {
     fn _exit(status: i32) -> !;
 }
 
-pub fn tell_the_case_on_a_crash() {
+pub fn tell_the_case_on_a_crash(program: &'static str) {
+    PROGRAM.get_or_init(|| program);
     for number in SIGNALS {
-        // SAFETY: the handler only reads an atomic, writes to standard output and ends.
+        // SAFETY: the handler only reads atomics, writes to standard output and ends.
         unsafe { signal(number, tell) };
     }
 }
@@ -32,17 +35,18 @@ pub fn now_at(in_sweep: bool, case: u64) {
     unsafe { alarm(MOST_SECONDS) };
 }
 
-const SWEEP: &[u8] = b"; again with: steps --sweep ";
-const RANDOM: &[u8] = b"; again with: steps --case ";
-
 extern "C" fn tell(number: i32) {
     let put = |text: &[u8]| {
         // SAFETY: the pointer goes with the length of its slice.
         unsafe { write(1, text.as_ptr(), text.len()) };
     };
-    put(b"steps: CRASH or no return, signal ");
+    let program = PROGRAM.get().copied().unwrap_or_default().as_bytes();
+    put(program);
+    put(b": CRASH or no return, signal ");
     put(digits(number as u64, &mut [0; 20]));
-    put(if IN_SWEEP.load(Ordering::Relaxed) { SWEEP } else { RANDOM });
+    put(b"; again with: ");
+    put(program);
+    put(if IN_SWEEP.load(Ordering::Relaxed) { b" --sweep " } else { b" --case " });
     put(digits(CASE.load(Ordering::Relaxed), &mut [0; 20]));
     put(b"\n");
     // SAFETY: ends the process at once.

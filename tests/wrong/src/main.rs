@@ -4,6 +4,7 @@
 //! `wrong` hunts with random cases, and with the sweeps where those miss;
 //! `wrong --both` hunts with both; `wrong NAME` does so for one twist and shows its shrunk case.
 
+mod batches_hunt;
 mod lines_hunt;
 mod steps_hunt;
 
@@ -40,6 +41,7 @@ fn main() {
             Shows::InSteps => steps_hunt::hunt(twist, hunt),
             Shows::InLines => lines_hunt::hunt(twist, hunt),
             Shows::InFull => lines_hunt::hunt_full(twist),
+            Shows::InBatches => batches_hunt::hunt(twist, hunt),
         };
         let told = |place: &Option<String>| place.clone().unwrap_or_else(|| "-".to_string());
         println!("{name:<24} {:<28} {:<28} {wrong}", told(&found.at_random), told(&found.by_sweep));
