@@ -32,7 +32,7 @@ use Rattle.telling.proofs.AnswerWordLaws.{answerWords-length}
 use Rattle.stepping.specs.declared.Record.{Record}
 use Rattle.stepping.specs.Records.{stepOf, partRows, rawRecord, stepRecord, Turns}
 use Rattle.stepping.proofs.RecordLaws.{record-room}
-use Rattle.batching.specs.Batches.{noRecord, recordAt, oneByOne, lastTables, allAnswers, allWords, ownReport, hasRoom, callRows, CallOutcome, called, batched, Batches}
+use Rattle.batching.specs.Batches.{noRecord, recordAt, oneByOne, lastTables, allAnswers, allWords, ownReport, hasRoom, callRows, done, called, batched, Batches}
 use Rattle.batching.specs.declared.Called.{Called}
 use Rattle.batching.specs.declared.Called.the-variants.{Refused, Done}
 
@@ -258,7 +258,7 @@ module _ (F : Form) (apart : Apart F) (list : List ℕ) (rs : List Record) (s₀
   call-refused {n} e h = rw (← e, ne-eqb n 0 h) (record { answer = refl; tasks = refl; promises = refl; report = sym (over-none rep₀); answers = sym (over-none ans₀) })
 
   call-done : first (callRows F s₀ (length rs) (length rep₀) (length ans₀)) ≡ 0
-      → batched F list s₀ rs (length rep₀) (length ans₀) ≡ record { answer = Done (length (allWords all)); after = lastTables s₀ all; words = allWords all; answers = allAnswers all }
+      → batched F list s₀ rs (length rep₀) (length ans₀) ≡ done s₀ all
   unfolding called
   call-done e = rw (eq-eqb (first (callRows F s₀ (length rs) (length rep₀) (length ans₀))) 0 e)
 

@@ -3,3 +3,4 @@ pub mod Carried
 pub mod Kit
 pub mod BatchLaws
 pub mod Worked
+pub mod Theorems

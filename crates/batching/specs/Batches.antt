@@ -5,13 +5,15 @@
 --   lastTables s os          the tables after them
 --   allAnswers os            their answers, four words each
 --   allWords os              their report words, one after another
+--   Taken F list s rs os     os are what the steps answer, do and report, one by one, each with a report of its own of any length that has room
 --   hasRoom F T P n m k      n records are not too many, and have room in a report of m words and in k words for their answers
 --   callRows F s n m k       refusals 1 and 2 of the call
 --   CallOutcome              the answer to the call, the tables after it, and what is written over the front of the report and of the answers
---   batched F list s rs m k  that of a call
+--   done s os, refused r s   all steps taken; refused by r
+--   batched F list s rs m k  what a call with a report of m words and k words for the answers makes
 --   Batches ..               what a call leaves of the tables, the report and the answers
 -- Assumes nothing.
-use Prim.Native.Nat.{ℕ, _+_, _*_}
+use Prim.Native.Nat.{ℕ, _+_, _*_, _≤_}
 use mathlib.Core.Path.{_≡_}
 use mathlib.Core.List.{List, [], _∷_, _++_}
 use mathlib.Core.Bool.{Bool, cond, not, _&&_}
@@ -57,11 +59,16 @@ unfoldable pub allWords : List Outcome → List ℕ
 allWords [] = []
 allWords (o ∷ os) = o .words ++ allWords os
 
--- ---- the call
-
 -- "room for P + 2T words per record"
 abbrev pub ownReport : ℕ → ℕ → ℕ
 ownReport T P = P + 2 * T
+
+pub data Taken (F : Form) (list : List ℕ) : Tables → List Record → List Outcome → Type 0 where
+  none-left : {s : Tables} → Taken F list s [] []
+  next : {s : Tables} {r : Record} {rs : List Record} {os : List Outcome} (n : ℕ) → ownReport (length (s .tasks)) (length (s .promises)) ≤ n
+      → Taken F list (stepRecord F n list s r .after) rs os → Taken F list s (r ∷ rs) (stepRecord F n list s r ∷ os)
+
+-- ---- the call
 
 -- "T or P out of bounds, more than 256 records or too little room is 1 for the call": "The report must have room for P + 2T words per record, and the answers for every record."
 unfoldable pub hasRoom : Form → ℕ → ℕ → ℕ → ℕ → ℕ → Bool
@@ -79,11 +86,16 @@ pub record CallOutcome : Type 0 where
   pub words : List ℕ
   pub answers : List ℕ
 
--- refused by r, "with nothing written", or all steps taken, if r is 0
+-- all steps taken
+abbrev pub done : Tables → List Outcome → CallOutcome
+done s os = record { answer = Done (length (allWords os)); after = lastTables s os; words = allWords os; answers = allAnswers os }
+
+-- refused, "with nothing written"
+abbrev pub refused : ℕ → Tables → CallOutcome
+refused r s = record { answer = Refused r; after = s; words = []; answers = [] }
+
 unfoldable pub called : ℕ → Tables → List Outcome → CallOutcome
-called r s os =
-    cond (eqb r 0) (record { answer = Done (length (allWords os)); after = lastTables s os; words = allWords os; answers = allAnswers os })
-    (record { answer = Refused r; after = s; words = []; answers = [] })
+called r s os = cond (eqb r 0) (done s os) (refused r s)
 
 -- "Tables, answers and words must equal those of the same steps taken one by one, each with a report of its own."
 abbrev pub batched : Form → List ℕ → Tables → List Record → ℕ → ℕ → CallOutcome

@@ -1,2 +1,3 @@
 pub mod Batches
+pub mod Reached
 pub mod WorkedBatch

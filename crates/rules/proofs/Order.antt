@@ -97,11 +97,13 @@ guarded-twice a b s o = go (eqb a 0) refl
     go true e = refl
     go false e = rw e
 
+-- by the rows of both, in their order
+pub guarded-joined : {xs : List Row} (ys : List Row) (s : Tables) (o : Outcome) → Numbered xs → guarded (first xs) s (guarded (first ys) s o) ≡ guarded (first (xs ++ ys)) s o
+guarded-joined {xs} ys s o m = guarded-twice (first xs) (first ys) s o ∙ ap (λ (r : ℕ). guarded r s o) (sym (first-append ys m))
+
 -- a step is its effect, guarded by all its rows in their order
 pub step-guarded : (F : Form) (n : ℕ) (s : Tables) (x : Step) → step F n s x ≡ guarded (first (tableRows F n s ++ rows F s x)) s (effect F s x)
-step-guarded F n s x =
-    guarded-twice (first (tableRows F n s)) (first (rows F s x)) s (effect F s x)
-    ∙ ap (λ (r : ℕ). guarded r s (effect F s x)) (sym (first-append (rows F s x) (tableRows-numbered F n s)))
+step-guarded F n s x = guarded-joined (rows F s x) s (effect F s x) (tableRows-numbered F n s)
 
 pub guarded-none : (r : ℕ) (s : Tables) (o : Outcome) → r ≡ 0 → guarded r s o ≡ o
 unfolding guarded
@@ -127,7 +129,7 @@ got-cases Q B s t p w v b c k = go (eqb w setWord) (leb B w) (walk (length (s .t
     go false false astray = k (length (s .tasks))
 
 -- not a refusal by number alone
-abbrev not-plain : Answer → Type 0
+abbrev pub not-plain : Answer → Type 0
 not-plain a = (r : ℕ) → a ≡ Refused r → ⊥
 
 started-not-plain : (B : ℕ) (s : Tables) (t c : ℕ) (list : List ℕ) (i : ℕ) → not-plain (started B s t c list i .answer)
@@ -138,7 +140,7 @@ started-not-plain B s t c list i = go (ltb i (length list))
     go true r e = clash cc
     go false r e = clash cc
 
-effect-not-plain : (F : Form) (s : Tables) (x : Step) → not-plain (effect F s x .answer)
+pub effect-not-plain : (F : Form) (s : Tables) (x : Step) → not-plain (effect F s x .answer)
 effect-not-plain F s (step-new t p) r e = clash cc
 effect-not-plain F s (step-set t p) r e = clash cc
 effect-not-plain F s (step-get t p) r e = got-cases (λ (o : Outcome). o .answer ≡ Refused r → ⊥) (F .base) s t p (promiseAt s p) (λ z. clash cc) (λ b z. clash cc) (λ k z. clash cc) (λ k z. clash cc) e
@@ -163,18 +165,22 @@ guarded-placed s g o r i e = go (ℕ-discrete g 0)
     go (yes z) = (z, sym (ap (λ (x : Outcome). x .answer) (guarded-none g s o z)) ∙ e)
     go (no m) = let k : Refused g ≡ RefusedAt r i = sym (ap (λ (x : Outcome). x .answer) (guarded-some g s o m)) ∙ e in clash cc
 
+-- refused by the first of any rows
+pub guarded-refused : (xs : List Row) (s : Tables) (o : Outcome) → not-plain (o .answer) → (r : ℕ) → guarded (first xs) s o .answer ≡ Refused r → FirstGiven r xs
+guarded-refused xs s o h r e = let (a, b) = guarded-plain (first xs) s o h r e in first-given xs r (λ (z : r ≡ 0). b (a ∙ z)) a
+
+pub guarded-first : {xs : List Row} (s : Tables) (o : Outcome) {r : ℕ} → Numbered xs → FirstGiven r xs → guarded (first xs) s o ≡ outcome (Refused r) s []
+guarded-first {xs} s o m g =
+    let e = given-first g in
+    let n = given-number m g in
+    guarded-some (first xs) s o (λ (z : first xs ≡ 0). n (sym e ∙ z)) ∙ ap (λ (q : ℕ). outcome (Refused q) s []) e
+
 pub refused-first : (F : Form) (n : ℕ) (s : Tables) (x : Step) (r : ℕ) → step F n s x .answer ≡ Refused r → FirstGiven r (tableRows F n s ++ rows F s x)
 refused-first F n s x r e =
-    let (a, b) = guarded-plain (first (tableRows F n s ++ rows F s x)) s (effect F s x) (effect-not-plain F s x) r (sym (ap (λ (o : Outcome). o .answer) (step-guarded F n s x)) ∙ e) in
-    first-given (tableRows F n s ++ rows F s x) r (λ (z : r ≡ 0). b (a ∙ z)) a
+    guarded-refused (tableRows F n s ++ rows F s x) s (effect F s x) (effect-not-plain F s x) r (sym (ap (λ (o : Outcome). o .answer) (step-guarded F n s x)) ∙ e)
 
 pub first-refused : (F : Form) (n : ℕ) (s : Tables) (x : Step) (r : ℕ) → FirstGiven r (tableRows F n s ++ rows F s x) → step F n s x ≡ outcome (Refused r) s []
-first-refused F n s x r g =
-    let e = given-first g in
-    let m = given-number (numbered-append (tableRows-numbered F n s) (rows-numbered F s x)) g in
-    step-guarded F n s x
-    ∙ guarded-some (first (tableRows F n s ++ rows F s x)) s (effect F s x) (λ (z : first (tableRows F n s ++ rows F s x) ≡ 0). m (sym e ∙ z))
-    ∙ ap (λ (q : ℕ). outcome (Refused q) s []) e
+first-refused F n s x r g = step-guarded F n s x ∙ guarded-first s (effect F s x) (numbered-append (tableRows-numbered F n s) (rows-numbered F s x)) g
 
 -- ---- an entry of an async list
 

@@ -1,0 +1,60 @@
+-- What is promised of the step of a record. F is any form, n the length of a report of its own, s any tables. Assumes nothing.
+use Prim.Native.Nat.{ℕ, _+_, _≤_}
+use mathlib.Core.Path.{_≡_, refl, sym, ap, _∙_}
+use mathlib.Core.List.{List, [], _∷_, _++_}
+use native.Mathlib.Omega.{arith}
+use lib.ListN.{length, drop}
+use Rattle.words.specs.Words.{Form}
+use Rattle.rules.specs.Tables.{Tables}
+use Rattle.rules.specs.Refusals.{Row, first, tableRows}
+use Rattle.rules.specs.Steps.{Step, step-new, step-set, step-get, step-async, step-end, Outcome, outcome, guarded, rows, effect, raw, step}
+use Rattle.rules.specs.Demands.{numbers, paperRows, FirstGiven}
+use Rattle.rules.specs.declared.Answer.the-variants.{Refused}
+use Rattle.rules.proofs.Order.{numbered-append, tableRows-numbered, rows-numbered, guarded-none, guarded-joined, guarded-refused, guarded-first, effect-not-plain}
+use Rattle.rules.proofs.RefusalLaws.{Numbered, row, no-row}
+use Rattle.stepping.specs.declared.Kind.the-variants.{Async}
+use Rattle.stepping.specs.declared.Record.{Record}
+use Rattle.stepping.specs.Records.{stepOf, partRows, stepRecord, Turns}
+use Rattle.stepping.proofs.RecordLaws.{part-not-given}
+
+module _ (F : Form) (n : ℕ) (list : List ℕ) (s : Tables) (r : Record) where
+  -- all its refusals
+  abbrev pub recordRows : List Row
+  recordRows = tableRows F n s ++ (partRows list r ++ rows F s (stepOf list r))
+
+  -- it is the step that the record names, but for a list part that passes the list's end
+  pub the-step-it-names : (r .kind ≡ Async → r .start + r .length ≤ length list) → stepRecord F n list s r ≡ step F n s (stepOf list r)
+  the-step-it-names h = ap (guarded (first (tableRows F n s)) s) (guarded-none (first (partRows list r)) s (raw F s (stepOf list r)) (part-not-given list r h))
+
+  in-order : (x : Step) → numbers (rows F s x) ≡ drop 2 (paperRows x)
+  in-order (step-new t p) = refl
+  in-order (step-set t p) = refl
+  in-order (step-get t p) = refl
+  in-order (step-async t c l) = refl
+  in-order (step-end t) = refl
+
+  part-numbered : Numbered (partRows list r)
+  part-numbered = row (λ (z : _≡_ {A = ℕ} 16 0). omega arith) no-row
+
+  -- "16 .. stands for its step directly after 2"; the others stand in the paper's order
+  pub sixteen-after-two : numbers recordRows ≡ 1 ∷ 2 ∷ 16 ∷ drop 2 (paperRows (stepOf list r))
+  sixteen-after-two = ap (λ (l : List ℕ). 1 ∷ 2 ∷ 16 ∷ l) (in-order (stepOf list r))
+
+  -- a record's step is refused by a number exactly when it is that of the first of these that applies; and then nothing changes
+  joined : stepRecord F n list s r ≡ guarded (first recordRows) s (effect F s (stepOf list r))
+  joined =
+      ap (guarded (first (tableRows F n s)) s) (guarded-joined (rows F s (stepOf list r)) s (effect F s (stepOf list r)) part-numbered)
+      ∙ guarded-joined (partRows list r ++ rows F s (stepOf list r)) s (effect F s (stepOf list r)) (tableRows-numbered F n s)
+
+  pub record-refused-by-the-first : (q : ℕ) → stepRecord F n list s r .answer ≡ Refused q → FirstGiven q recordRows
+  record-refused-by-the-first q e =
+      guarded-refused recordRows s (effect F s (stepOf list r)) (effect-not-plain F s (stepOf list r)) q (sym (ap (λ (o : Outcome). o .answer) joined) ∙ e)
+
+  pub the-first-refuses-the-record : (q : ℕ) → FirstGiven q recordRows → stepRecord F n list s r ≡ outcome (Refused q) s []
+  the-first-refuses-the-record q g =
+      joined ∙ guarded-first s (effect F s (stepOf list r)) (numbered-append (tableRows-numbered F n s) (numbered-append part-numbered (rows-numbered F s (stepOf list r)))) g
+
+-- any two outcomes that the contract of a turn allows coincide
+pub turns-unique : {o : Outcome} {at i : ℕ} {rs ws : List ℕ} {n n′ : ℕ} {ts ts′ ps ps′ rep rep′ ans ans′ : List ℕ} → Turns o at i rs ws n ts ps rep ans → Turns o at i rs ws n′ ts′ ps′ rep′ ans′
+    → (n ≡ n′) × (ts ≡ ts′) × (ps ≡ ps′) × (rep ≡ rep′) × (ans ≡ ans′)
+turns-unique g h = (g .next-at ∙ sym (h .next-at), g .tasks ∙ sym (h .tasks), g .promises ∙ sym (h .promises), g .report ∙ sym (h .report), g .answers ∙ sym (h .answers))
