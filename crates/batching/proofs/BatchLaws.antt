@@ -109,7 +109,7 @@ module _ (F : Form) (apart : Apart F) (n : ℕ) (list : List ℕ) (s : Tables) (
 pub oneByOne-length : (F : Form) (n : ℕ) (list : List ℕ) (s : Tables) (rs : List Record) → length (oneByOne F n list s rs) ≡ length rs
 unfolding oneByOne
 oneByOne-length F n list s [] = refl
-oneByOne-length F n list s (r ∷ rs) = ap suc (oneByOne-length F n list (stepRecord F n list s r .after) rs)
+oneByOne-length F n list s (r ∷ rs) = ap suc (oneByOne-length F n list _ rs)
 
 pub allAnswers-length : (os : List Outcome) → length (allAnswers os) ≡ 4 * length os
 unfolding allAnswers

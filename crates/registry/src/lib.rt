@@ -1,5 +1,6 @@
 // The registry for C and Rust: the steps as exported functions on numbers and slices of 16-bit words. A slice passes as a pointer and a length. A step returns its
-// answer's number and writes four words to `answer`: the number, then the answer's values, 0 where it has none.
+// answer's number and writes four words to `answer`: the number, then the answer's values, 0 where it has none. A batch takes its records as five words each, and
+// returns the refusal of the call, or 0.
 use ending::step_end;
 use getting::step_get;
 use making::step_new;
@@ -13,6 +14,7 @@ ghost use Rattle.rules.specs.Tables.{tables as tablesOf};
 ghost use Rattle.rules.specs.Sound.{soundTest};
 ghost use Rattle.rules.specs.Steps.{step, step-new, step-set, step-get, step-async, step-end};
 ghost use Rattle.rules.specs.Sessions.{Freshens};
+ghost use Rattle.unpacking.specs.Flat.{flatly, Flats};
 ghost use Rattle.registry.specs.Exports.{exported, Exports};
 
 // Whether the tables are sound.
@@ -114,4 +116,18 @@ pub extern "C" fn registry_step_end(
         return 1;
     }
     tell(answer, step_end(tasks, promises, report, t))
+}
+
+#[no_mangle]
+pub extern "C" fn registry_batch(
+    tasks: &mut [u16],
+    promises: &mut [u16],
+    report: &mut [u16],
+    steps: &[u16],
+    list: &[u16],
+    answers: &mut [u16],
+) -> u16
+    ensures { λ r. ⌜ Flats (flatly small (now (list .entry)) (tablesOf (now (tasks .entry)) (now (promises .entry))) (now (steps .entry)) (length (now (report .entry))) (length (now (answers .entry)))) (now (report .entry)) (now (answers .entry)) r (now (tasks .exit)) (now (promises .exit)) (now (report .exit)) (now (answers .exit)) ⌝ }
+{
+    unpacking::batch_words(tasks, promises, report, steps, list, answers)
 }
