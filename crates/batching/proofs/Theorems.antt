@@ -79,7 +79,7 @@ module _ (F : Form) (apart : Apart F) (list : List ℕ) where
       let y = record-raw F apart own list s r g in
       let l = record-lengths F apart own list s r g in
       let z = taken-one-by-one own (rawRecord F list s r .after) rs os (omega (arith, l .0, l .1)) (record-good F apart own list s r g)
-              (subst (λ (a : Outcome). Taken F list (a .after) rs os) x t) in
+      (subst (λ (a : Outcome). Taken F list (a .after) rs os) x t) in
       rw (x, y) (ap (λ (l : List Outcome). rawRecord F list s r ∷ l) z)
 
   pub the-same-one-by-one : (s : Tables) (rs : List Record) (m k : ℕ) (os : List Outcome) → first (callRows F s (length rs) m k) ≡ 0 → Taken F list s rs os

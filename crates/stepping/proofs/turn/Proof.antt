@@ -49,7 +49,7 @@ word-count-requires : tie.Need-word-count-requires
 word-count-requires c κs = search needs
 
 add-result : tie.Need-add-result
-add-result c = 
+add-result c =
     let x = c .before .before .before .before .before .before .before .before .before .before .before .before .before .before .before .before .before .before .before .before in
     let h = next-within small (x .args .list .now) (tables (x .args .tasks .now) (x .args .promises .now)) (x .args .r) (x .args .at) (x .args .report .now) (x .pre .0) (c .before .before .before .before .before .before .before .before .before .before .before .raw-record .ensures) (c .word-count .ensures) (x .pre .1) in
     omega (arith, h)
@@ -67,7 +67,7 @@ same-length-4 : tie.Need-same-length-4
 same-length-4 c = search needs
 
 returns : tie.Need-returns
-returns c = 
+returns c =
     let x = c .before .before .before .before .before .before .before .before .before .before .before .before .before .before .before .before .before .before .before .before in
     turned small (x .args .list .now) (tables (x .args .tasks .now) (x .args .promises .now)) (x .args .r) (x .args .at) (x .args .i) (x .args .report .now) (x .args .answers .now)
     (x .pre .0) (x .pre .1) (x .pre .2) (c .before .before .before .before .before .before .before .before .before .before .before .raw-record .ensures) (c .before .before .before .tell .ensures .1) (c .word-count .ensures)
