@@ -3,17 +3,16 @@
 use Prim.Native.Nat.{ℕ, zero, suc, _+_, _*_, _-_, _≤_, _<_}
 use mathlib.Core.Path.{_≡_, refl, sym, ap, subst, _∙_}
 use mathlib.Core.Logic.{_≢_}
-use mathlib.Core.List.{List, [], _∷_, _++_}
+use mathlib.Core.List.{List, [], _∷_}
 use mathlib.Core.Bool.{true, false, not, _&&_}
 use native.Mathlib.Omega.{arith}
 use native.Mathlib.Nat.{suc-mul}
 use native.Mathlib.Numerals.{add-one}
 use borrow.Author.Tests.{leb-true, le-leb, lt-leb, eq-eqb, ne-eqb}
 use lib.Dec.{leb}
-use lib.ListN.{length, drop, getD, length-append, length-set, drop-of-length-le}
+use lib.ListN.{length, drop, length-append, drop-of-length-le}
 use lib.Seq.{sets, length-sets, drop-cons}
 use Rattle.words.specs.Words.{Form, inBounds, sizesInBounds, mostRecords}
-use Rattle.words.specs.Lists.{over}
 use Rattle.words.proofs.BoolLaws.{and-split, and-false}
 use Rattle.words.proofs.ListLaws.{over-sets, over-none, sets-append}
 use Rattle.words.proofs.WordLaws.{Sizes, sizesInBounds-true, inBounds-true, inBounds-of}
@@ -33,7 +32,6 @@ use Rattle.stepping.specs.declared.Record.{Record}
 use Rattle.stepping.specs.Records.{stepOf, partRows, rawRecord, stepRecord, Turns}
 use Rattle.stepping.proofs.RecordLaws.{record-room}
 use Rattle.batching.specs.Batches.{noRecord, recordAt, oneByOne, lastTables, allAnswers, allWords, ownReport, hasRoom, callRows, done, called, batched, Batches}
-use Rattle.batching.specs.declared.Called.{Called}
 use Rattle.batching.specs.declared.Called.the-variants.{Refused, Done}
 
 -- ---- a call that is not refused

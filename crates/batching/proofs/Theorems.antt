@@ -1,6 +1,6 @@
 -- What is promised of a batch. F is any form whose owned and blamed words do not meet, list the lent list, s any tables, rs any records, m the report's length and k that of the
 -- answers. Assumes nothing.
-use Prim.Native.Nat.{ℕ, zero, suc, _+_, _*_, _≤_}
+use Prim.Native.Nat.{ℕ, zero, suc, _≤_}
 use mathlib.Core.Path.{_≡_, refl, sym, ap, subst, _∙_}
 use mathlib.Core.List.{List, [], _∷_}
 use mathlib.Core.Logic.{_≢_}
@@ -8,11 +8,11 @@ use native.Mathlib.Omega.{arith}
 use native.Mathlib.Decide.{ℕ-discrete}
 use borrow.Author.Tests.{eq-eqb, ne-eqb}
 use lib.ListN.{length, take}
-use Rattle.words.specs.Words.{Form, inBounds}
+use Rattle.words.specs.Words.{Form}
 use Rattle.words.proofs.BoolLaws.{clash}
 use Rattle.words.proofs.WordLaws.{inBounds-true, inBounds-of}
 use Rattle.rules.specs.Tables.{Tables}
-use Rattle.rules.specs.Refusals.{Row, first}
+use Rattle.rules.specs.Refusals.{first}
 use Rattle.rules.specs.Steps.{Outcome}
 use Rattle.rules.specs.Demands.{Apart, Good, FirstGiven, Demand3}
 use Rattle.rules.proofs.Kept.{fresh-good, good-step}
@@ -20,7 +20,7 @@ use Rattle.rules.proofs.Order.{first-given, given-first}
 use Rattle.rules.proofs.Promises.{demand-3-of}
 use Rattle.stepping.specs.declared.Record.{Record}
 use Rattle.stepping.specs.Records.{rawRecord, stepRecord}
-use Rattle.batching.specs.Batches.{oneByOne, lastTables, allAnswers, allWords, ownReport, Taken, none-left, next, callRows, CallOutcome, done, refused, called, batched, Batches}
+use Rattle.batching.specs.Batches.{oneByOne, lastTables, allWords, ownReport, Taken, none-left, next, callRows, CallOutcome, done, refused, called, batched, Batches}
 use Rattle.batching.specs.Reached.{Reached, from-fresh, by-step, by-call}
 use Rattle.batching.specs.declared.Called.{Called}
 use Rattle.batching.specs.declared.Called.the-variants.{Refused, Done}

@@ -10,7 +10,7 @@ use Rattle.rules.specs.Refusals.{first, differs, entryRefusal, firstBad}
 use Rattle.rules.specs.Steps.{given, awaits, walk, pairs, followed, got, guarded, started}
 use Rattle.telling.specs.AnswerWords.{answerWords}
 use Rattle.stepping.specs.Records.{stepBy, isAsync}
-use Rattle.batching.specs.Batches.{oneByOne, lastTables, allAnswers, allWords, hasRoom, CallOutcome, called, batched}
+use Rattle.batching.specs.Batches.{oneByOne, lastTables, allAnswers, allWords, hasRoom, called, batched}
 use Rattle.batching.specs.WorkedBatch.{workedList, workedRecords, workedOutcome}
 use Rattle.batching.specs.declared.Called.the-variants.{Refused}
 

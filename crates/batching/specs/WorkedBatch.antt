@@ -3,7 +3,7 @@
 -- Assumes nothing.
 use Prim.Native.Nat.{ℕ}
 use mathlib.Core.List.{List, [], _∷_}
-use Rattle.rules.specs.Tables.{Tables, tables}
+use Rattle.rules.specs.Tables.{tables}
 use Rattle.stepping.specs.declared.Kind.{Kind}
 use Rattle.stepping.specs.declared.Kind.the-variants.{New, Set, Get, Async, End}
 use Rattle.stepping.specs.declared.Record.{Record}

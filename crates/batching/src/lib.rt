@@ -19,7 +19,7 @@ pub enum Called {
 }
 
 // The `i`-th record.
-pub fn record_at(records: &[Record], i: usize) -> Record
+fn record_at(records: &[Record], i: usize) -> Record
     requires { ⌜ i < length (now records) ⌝ }
     ensures { λ r. ⌜ r ≡ recordAt (now (records .entry)) i ⌝ }
 {

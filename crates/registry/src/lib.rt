@@ -9,7 +9,7 @@ use starting::step_async;
 use telling::tell;
 ghost use mathlib.Core.Path.{_≡_};
 ghost use lib.ListN.{length};
-ghost use Rattle.words.specs.Words.{small, Form};
+ghost use Rattle.words.specs.Words.{small};
 ghost use Rattle.rules.specs.Tables.{tables as tablesOf};
 ghost use Rattle.rules.specs.Sound.{soundTest};
 ghost use Rattle.rules.specs.Steps.{step, step-new, step-set, step-get, step-async, step-end};

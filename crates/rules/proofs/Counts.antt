@@ -16,8 +16,7 @@ use Rattle.rules.specs.Sound.{Hop, ready, lost, to, hop}
 use Rattle.rules.specs.Answers.{wordCount}
 use Rattle.rules.specs.Refusals.{entryRefusal}
 use Rattle.rules.specs.Steps.{Step, step-new, step-set, step-get, step-async, step-end, Outcome, outcome, Found, astray, back, free, walk, walkBy, pairs, awaits, withStarted, followed, got, guarded, started, effect, raw, step}
-use Rattle.rules.specs.declared.Answer.{Answer}
-use Rattle.rules.specs.declared.Answer.the-variants.{Value, Blamed, Waits, Cycle, Started, Refused, RefusedAt}
+use Rattle.rules.specs.declared.Answer.the-variants.{Value, Blamed, Started, Refused, RefusedAt}
 use Rattle.rules.proofs.Order.{guarded-none, guarded-some, got-cases}
 
 -- ---- what holds of an outcome by its cases

@@ -17,7 +17,7 @@ use Rattle.words.proofs.WordLaws.{inBounds-true}
 use Rattle.rules.specs.Tables.{Tables}
 use Rattle.rules.specs.Answers.{wordCount}
 use Rattle.rules.specs.Refusals.{first}
-use Rattle.rules.specs.Steps.{Step, step-async, Outcome, outcome, guarded, raw}
+use Rattle.rules.specs.Steps.{Step, step-async, Outcome, raw}
 use Rattle.rules.specs.Contracts.{Gives}
 use Rattle.rules.specs.declared.Answer.{Answer}
 use Rattle.rules.specs.declared.Answer.the-variants.{Refused}

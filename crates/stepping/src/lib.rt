@@ -13,9 +13,8 @@ ghost use Prim.Native.Nat.{_+_, _*_, _-_, _≤_};
 ghost use lib.ListN.{length};
 ghost use Rattle.words.specs.Words.{small, inBounds};
 ghost use Rattle.rules.specs.Tables.{tables as tablesOf};
-ghost use Rattle.rules.specs.Refusals.{first};
 ghost use Rattle.rules.specs.Contracts.{Gives};
-ghost use Rattle.stepping.specs.Records.{partRows, rawRecord, Turns};
+ghost use Rattle.stepping.specs.Records.{rawRecord, Turns};
 
 // The five steps.
 pub enum Kind {
@@ -59,7 +58,7 @@ fn raw_part(
 }
 
 // The step that the record names, without refusals 1 and 2, for a caller that has tested the bounds and the tables.
-pub fn raw_record(
+fn raw_record(
     tasks: &mut [u16],
     promises: &mut [u16],
     report: &mut [u16],

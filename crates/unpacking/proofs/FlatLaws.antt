@@ -10,7 +10,7 @@ use lib.Dec.{leb}
 use lib.ListN.{length, getD, set, take, drop, length-drop, drop-of-length-le}
 use lib.Seq.{drop-cons, sets, sets-eq, take-at}
 use Rattle.words.specs.Words.{Form, mostRecords}
-use Rattle.words.proofs.BoolLaws.{true-is-not-false, and-split, and-false}
+use Rattle.words.proofs.BoolLaws.{true-is-not-false, and-split}
 use Rattle.words.proofs.ListLaws.{over-none}
 use Rattle.rules.specs.Tables.{Tables}
 use Rattle.rules.specs.Refusals.{first}

@@ -1,13 +1,7 @@
 use Rattle.rules.specs.Refusals.{first}
-use native.Mathlib.Omega.{arith}
-use Rattle.words.proofs.Tests.{tests}
 use borrow.Author.Needs.{needs}
 use Rattle.batching.proofs.call_refusal.Statement.{statement}
 use Rattle.batching.proofs.call_refusal.Tie as tie
-use Rattle.batching.proofs.call_refusal.Reads as reads
-use Rattle.batching.proofs.call_refusal.Lts as lts
-use Rattle.batching.proofs.has_room.Reads as has-room-reads
-use Rattle.sound.proofs.is_sound.Reads as is-sound-reads
 
 has-room-requires : tie.Need-has-room-requires
 has-room-requires c κs = search needs

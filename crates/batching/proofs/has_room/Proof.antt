@@ -5,13 +5,9 @@ use Rattle.words.specs.Words.{small}
 use Rattle.words.proofs.WordLaws.{sizesInBounds-true}
 use Rattle.batching.proofs.BatchLaws.{room-no-sizes, room-too-many, room-rest}
 use native.Mathlib.Omega.{arith}
-use Rattle.words.proofs.Tests.{tests}
 use borrow.Author.Needs.{needs}
 use Rattle.batching.proofs.has_room.Statement.{statement}
 use Rattle.batching.proofs.has_room.Tie as tie
-use Rattle.batching.proofs.has_room.Reads as reads
-use Rattle.batching.proofs.has_room.Lts as lts
-use Rattle.words.proofs.sizes_in_bounds.Reads as sizes-in-bounds-reads
 
 returns : tie.Need-returns
 returns c = room-too-many small (c .before .args .tasks) (c .before .args .promises) (c .before .args .records) (c .before .args .report) (c .before .args .answers) (c .if1 .taken)

@@ -2,7 +2,7 @@
 -- Assumes nothing.
 use native.Mathlib.Omega.{arith}
 use denote.Struct.Laws as LL
-use Rattle.batching.proofs.Kit.{_≡_, refl, sym, ℕ, _<_, _^_, _*_, List, [], _∷_, length, getD, URA, fullShare, named, w64, tyPtr, Val, vint, vptr, SProp, ent, Lft, GName, Share, ftrue, fat, flft, Memory, Routine, Heap, Calls, Loops, WpFn, Atoms, Fun, givenOf, Given, ‵, _⊛_, ⋆, _$_, _∵_, !, qed, by, move, keep, split, join, rewrite, fsplit, fjoin, suffices, frame, done, whole, sub, look-in, look, look-raw, init, forget, stop, hop, fld, from, load, lit, of-opd, bin, assigns, returns, enter, alloc1, alloc0, params1, pass1, pass0, free1, free0, RattleType, owns, Is, shows, uint-vals, uint-tells, RefT, usize, sliceVal, ShrSlice, Room, slice-vals, shr-slice-tells, place-is, elem-out, elem-back, looks-slice, shuts-slice, plain, nothing, owned, Vals, onEntry, says, needs, Stays, stay-none-slice, stay-none, walkOf, Walks, ends-at, walked, goes-none-slice, goes-none, yes, meets}
+use Rattle.batching.proofs.Kit.{refl, sym, ℕ, _<_, _^_, _*_, List, [], _∷_, length, getD, URA, fullShare, named, w64, tyPtr, Val, vint, vptr, SProp, ent, Lft, GName, Share, ftrue, fat, flft, Memory, Routine, Heap, Calls, Loops, WpFn, Atoms, Fun, givenOf, Given, ‵, _⊛_, ⋆, _$_, _∵_, !, qed, by, move, keep, split, join, rewrite, fsplit, fjoin, suffices, frame, done, whole, sub, look-in, look, look-raw, init, forget, stop, hop, fld, from, load, lit, of-opd, bin, assigns, returns, enter, alloc1, alloc0, params1, pass1, pass0, free1, free0, RattleType, owns, Is, shows, uint-vals, uint-tells, RefT, usize, sliceVal, ShrSlice, Room, slice-vals, shr-slice-tells, place-is, elem-out, elem-back, looks-slice, shuts-slice, plain, nothing, owned, Vals, onEntry, says, needs, Stays, stay-none-slice, stay-none, walkOf, ends-at, walked, goes-none-slice, goes-none, yes, meets}
 use Rattle.stepping.specs.declared.Record.{Record}
 use Rattle.batching.specs.Batches.{noRecord}
 use Rattle.stepping.proofs.Record as T

@@ -4,13 +4,9 @@ use Rattle.words.specs.Words.{small}
 use Rattle.rules.specs.Tables.{tables}
 use Rattle.stepping.proofs.RecordLaws.{record-refused, part-taken}
 use native.Mathlib.Omega.{arith}
-use Rattle.words.proofs.Tests.{tests}
 use borrow.Author.Needs.{needs}
 use Rattle.stepping.proofs.raw_part.Statement.{statement}
 use Rattle.stepping.proofs.raw_part.Tie as tie
-use Rattle.stepping.proofs.raw_part.Reads as reads
-use Rattle.stepping.proofs.raw_part.Lts as lts
-use Rattle.starting.proofs.raw_async.Reads as raw-async-reads
 
 returns : tie.Need-returns
 returns c = record-refused small (tables (c .before .before .before .before .before .args .tasks .now) (c .before .before .before .before .before .args .promises .now)) (c .before .before .before .before .before .args .list .now) (c .before .before .before .before .before .args .r) _ (c .before .before .before .before .before .pre .0) (omega arith)

@@ -4,18 +4,9 @@ use Rattle.rules.specs.Tables.{tables}
 use Rattle.rules.specs.Steps.{step-new, step-set, step-get, step-end}
 use Rattle.stepping.specs.Records.{stepBy, isAsync}
 use Rattle.stepping.proofs.RecordLaws.{record-taken}
-use native.Mathlib.Omega.{arith}
-use Rattle.words.proofs.Tests.{tests}
 use borrow.Author.Needs.{needs}
 use Rattle.stepping.proofs.raw_record.Statement.{statement}
 use Rattle.stepping.proofs.raw_record.Tie as tie
-use Rattle.stepping.proofs.raw_record.Reads as reads
-use Rattle.stepping.proofs.raw_record.Lts as lts
-use Rattle.ending.proofs.raw_end.Reads as raw-end-reads
-use Rattle.getting.proofs.raw_get.Reads as raw-get-reads
-use Rattle.making.proofs.raw_new.Reads as raw-new-reads
-use Rattle.setting.proofs.raw_set.Reads as raw-set-reads
-use Rattle.stepping.proofs.raw_part.Reads as raw-part-reads
 
 enum-told : tie.Need-enum-told
 enum-told c = search needs

@@ -2,15 +2,9 @@ use Rattle.words.specs.Words.{small}
 use Rattle.rules.specs.Tables.{tables}
 use Rattle.stepping.proofs.RecordLaws.{rest-bounds, next-within, turned}
 use native.Mathlib.Omega.{arith}
-use Rattle.words.proofs.Tests.{tests}
 use borrow.Author.Needs.{needs}
 use Rattle.stepping.proofs.turn.Statement.{statement}
 use Rattle.stepping.proofs.turn.Tie as tie
-use Rattle.stepping.proofs.turn.Reads as reads
-use Rattle.stepping.proofs.turn.Lts as lts
-use Rattle.stepping.proofs.raw_record.Reads as raw-record-reads
-use Rattle.telling.proofs.tell.Reads as tell-reads
-use Rattle.telling.proofs.word_count.Reads as word-count-reads
 
 mul-raw-record : tie.Need-mul-raw-record
 mul-raw-record c = search needs

@@ -3,8 +3,6 @@ use Rattle.rules.specs.Answers.{wordCount}
 use borrow.Author.Needs.{needs}
 use Rattle.telling.proofs.word_count.Statement.{statement}
 use Rattle.telling.proofs.word_count.Tie as tie
-use Rattle.telling.proofs.word_count.Reads as reads
-use Rattle.telling.proofs.word_count.Lts as lts
 
 enum-told : tie.Need-enum-told
 enum-told c = search needs
