@@ -4,6 +4,7 @@ use Prim.Native.Nat.{ℕ, zero, suc, _≤_}
 use mathlib.Core.Path.{_≡_, refl, sym, ap, subst, _∙_}
 use mathlib.Core.List.{List, [], _∷_}
 use mathlib.Core.Logic.{_≢_}
+use mathlib.Core.Bool.{Bool}
 use native.Mathlib.Omega.{arith}
 use native.Mathlib.Decide.{ℕ-discrete}
 use borrow.Author.Tests.{eq-eqb, ne-eqb}
@@ -14,9 +15,9 @@ use Rattle.words.proofs.WordLaws.{inBounds-true, inBounds-of}
 use Rattle.rules.specs.Tables.{Tables}
 use Rattle.rules.specs.Refusals.{first}
 use Rattle.rules.specs.Steps.{Outcome}
-use Rattle.rules.specs.Demands.{Apart, Good, FirstGiven, Demand3}
+use Rattle.rules.specs.Demands.{Apart, Good, FirstGiven, now, later, NoneGiven, Demand3}
 use Rattle.rules.proofs.Kept.{fresh-good, good-step}
-use Rattle.rules.proofs.Order.{first-given, given-first}
+use Rattle.rules.proofs.Order.{first-given, given-first, none-first}
 use Rattle.rules.proofs.Promises.{demand-3-of}
 use Rattle.stepping.specs.declared.Record.{Record}
 use Rattle.stepping.specs.Records.{rawRecord, stepRecord}
@@ -27,6 +28,14 @@ use Rattle.batching.specs.declared.Called.the-variants.{Refused, Done}
 use Rattle.batching.proofs.BatchLaws.{call-good, record-raw, record-good, record-lengths}
 
 -- ---- the call
+
+-- a number that a row of a call gives is 1 or 2
+second-number : {b : Bool} {q : ℕ} → FirstGiven q ((2, b) ∷ []) → q ≢ 0
+second-number now = λ (z : _≡_ {A = ℕ} 2 0). omega arith
+
+call-number : {a b : Bool} {q : ℕ} → FirstGiven q ((1, a) ∷ (2, b) ∷ []) → q ≢ 0
+call-number now = λ (z : _≡_ {A = ℕ} 1 0). omega arith
+call-number (later g) = second-number g
 
 module _ (F : Form) (list : List ℕ) (s : Tables) (rs : List Record) (m k : ℕ) where
   abbrev why : ℕ
@@ -55,8 +64,8 @@ module _ (F : Form) (list : List ℕ) (s : Tables) (rs : List Record) (m k : ℕ
           let b : why ≡ q = cc in
           first-given (callRows F s (length rs) m k) q (λ (z : q ≡ 0). h (b ∙ z)) b
 
-  pub the-first-refuses-the-call : (q : ℕ) → q ≢ 0 → FirstGiven q (callRows F s (length rs) m k) → batched F list s rs m k ≡ refused q s
-  the-first-refuses-the-call q h g = refused-all (λ (z : why ≡ 0). h (sym (given-first g) ∙ z)) ∙ ap (λ (r : ℕ). refused r s) (given-first g)
+  pub the-first-refuses-the-call : (q : ℕ) → FirstGiven q (callRows F s (length rs) m k) → batched F list s rs m k ≡ refused q s
+  the-first-refuses-the-call q g = refused-all (λ (z : why ≡ 0). call-number g (sym (given-first g) ∙ z)) ∙ ap (λ (r : ℕ). refused r s) (given-first g)
 
 -- ---- "Tables, answers and words must equal those of the same steps taken one by one, each with a report of its own."
 
@@ -82,13 +91,14 @@ module _ (F : Form) (apart : Apart F) (list : List ℕ) where
       (subst (λ (a : Outcome). Taken F list (a .after) rs os) x t) in
       rw (x, y) (ap (λ (l : List Outcome). rawRecord F list s r ∷ l) z)
 
-  pub the-same-one-by-one : (s : Tables) (rs : List Record) (m k : ℕ) (os : List Outcome) → first (callRows F s (length rs) m k) ≡ 0 → Taken F list s rs os
+  pub the-same-one-by-one : (s : Tables) (rs : List Record) (m k : ℕ) (os : List Outcome) → NoneGiven (callRows F s (length rs) m k) → Taken F list s rs os
       → batched F list s rs m k ≡ done s os
-  the-same-one-by-one s rs m k os e t =
+  the-same-one-by-one s rs m k os none t =
+      let e = none-first none in
       let own = ownReport (length (s .tasks)) (length (s .promises)) in
       taken-all F list s rs m k e ∙ ap (done s) (sym (taken-one-by-one own s rs os refl (call-good F s (length rs) m k e apart) t))
 
-  -- and there is no other way to take them: steps are taken one by one from any tables
+  -- steps can be taken so from any tables
   pub taken-exist : (s : Tables) (rs : List Record) → (os : List Outcome) × Taken F list s rs os
   taken-exist s [] = ([], none-left)
   taken-exist s (r ∷ rs) =
