@@ -31,7 +31,7 @@ use Rattle.telling.proofs.AnswerWordLaws.{answerWords-length}
 use Rattle.stepping.specs.declared.Record.{Record}
 use Rattle.stepping.specs.Records.{stepOf, partRows, rawRecord, stepRecord, Turns}
 use Rattle.stepping.proofs.RecordLaws.{record-room}
-use Rattle.batching.specs.Batches.{noRecord, recordAt, oneByOne, lastTables, allAnswers, allWords, ownReport, hasRoom, callRows, done, called, batched, Batches}
+use Rattle.batching.specs.Batches.{noRecord, recordAt, oneByOne, lastTables, allAnswers, allWords, ownReport, hasRoom, callRows, done, refused, called, batched, Batches}
 use Rattle.batching.specs.declared.Called.the-variants.{Refused, Done}
 
 -- ---- a call that is not refused
@@ -83,6 +83,21 @@ module _ (F : Form) (s : Tables) (n m k : ℕ) (e : first (callRows F s n m k) �
             (record { some = b .some; tasks = b .tasks; promises = b .promises; room = omega arith });
         sound = test-means-sound (F .base) s (omega (arith, apart, b .tasks)) (callRows-none .1);
       }
+
+-- ---- the two outcomes of a call
+
+module _ (F : Form) (list : List ℕ) (s : Tables) (rs : List Record) (m k : ℕ) where
+  -- the refusal of the call, or 0
+  abbrev pub why : ℕ
+  why = first (callRows F s (length rs) m k)
+
+  pub taken-all : why ≡ 0 → batched F list s rs m k ≡ done s (oneByOne F (ownReport (length (s .tasks)) (length (s .promises))) list s rs)
+  unfolding called
+  taken-all e = rw (eq-eqb why 0 e)
+
+  pub refused-all : why ≢ 0 → batched F list s rs m k ≡ refused why s
+  unfolding called
+  refused-all h = rw (ne-eqb why 0 h)
 
 -- ---- a record's step on good tables
 
@@ -252,13 +267,9 @@ module _ (F : Form) (apart : Apart F) (list : List ℕ) (rs : List Record) (s₀
 
   pub call-refused : {n : ℕ} → n ≡ first (callRows F s₀ (length rs) (length rep₀) (length ans₀)) → n ≢ 0
       → Batches (batched F list s₀ rs (length rep₀) (length ans₀)) rep₀ ans₀ (Refused n) (s₀ .tasks) (s₀ .promises) rep₀ ans₀
-  unfolding called
-  call-refused {n} e h = rw (← e, ne-eqb n 0 h) (record { answer = refl; tasks = refl; promises = refl; report = sym (over-none rep₀); answers = sym (over-none ans₀) })
-
-  call-done : first (callRows F s₀ (length rs) (length rep₀) (length ans₀)) ≡ 0
-      → batched F list s₀ rs (length rep₀) (length ans₀) ≡ done s₀ all
-  unfolding called
-  call-done e = rw (eq-eqb (first (callRows F s₀ (length rs) (length rep₀) (length ans₀))) 0 e)
+  call-refused {n} e h =
+      rw (refused-all F list s₀ rs (length rep₀) (length ans₀) (λ z. h (e ∙ z)), ← e)
+      (record { answer = refl; tasks = refl; promises = refl; report = sym (over-none rep₀); answers = sym (over-none ans₀) })
 
   pub going-end : {i at : ℕ} {s : Tables} {rep ans : List ℕ} → first (callRows F s₀ (length rs) (length rep₀) (length ans₀)) ≡ 0 → Going i at s rep ans → length rs ≤ i
       → Batches (batched F list s₀ rs (length rep₀) (length ans₀)) rep₀ ans₀ (Done at) (s .tasks) (s .promises) rep ans
@@ -268,7 +279,7 @@ module _ (F : Form) (apart : Apart F) (list : List ℕ) (rs : List Record) (s₀
       let last : s ≡ lastTables s₀ all = sym (ap (lastTables s) z) ∙ g .same in
       let count : at ≡ length (allWords all) = omega (arith, g .counted, ap (λ (os : List Outcome). length (allWords os)) z) in
       let answers-fit : length (allAnswers all) ≤ length ans₀ = omega (arith, allAnswers-length all, oneByOne-length F own list s₀ rs, g .answered) in
-      rw (call-done e) (record {
+      rw (taken-all F list s₀ rs (length rep₀) (length ans₀) e) (record {
         answer = ap Done count;
         tasks = ap (λ (x : Tables). x .tasks) last;
         promises = ap (λ (x : Tables). x .promises) last;

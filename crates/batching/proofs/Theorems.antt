@@ -7,7 +7,6 @@ use mathlib.Core.Logic.{_≢_}
 use mathlib.Core.Bool.{Bool}
 use native.Mathlib.Omega.{arith}
 use native.Mathlib.Decide.{ℕ-discrete}
-use borrow.Author.Tests.{eq-eqb, ne-eqb}
 use lib.ListN.{length, take}
 use Rattle.words.specs.Words.{Form}
 use Rattle.words.proofs.BoolLaws.{clash}
@@ -21,11 +20,11 @@ use Rattle.rules.proofs.Order.{first-given, given-first, none-first}
 use Rattle.rules.proofs.Promises.{demand-3-of}
 use Rattle.stepping.specs.declared.Record.{Record}
 use Rattle.stepping.specs.Records.{rawRecord, stepRecord}
-use Rattle.batching.specs.Batches.{oneByOne, lastTables, allWords, ownReport, Taken, none-left, next, callRows, CallOutcome, done, refused, called, batched, Batches}
+use Rattle.batching.specs.Batches.{oneByOne, lastTables, ownReport, Taken, none-left, next, callRows, CallOutcome, done, refused, batched, Batches}
 use Rattle.batching.specs.Reached.{Reached, from-fresh, by-step, by-call}
 use Rattle.batching.specs.declared.Called.{Called}
 use Rattle.batching.specs.declared.Called.the-variants.{Refused, Done}
-use Rattle.batching.proofs.BatchLaws.{call-good, record-raw, record-good, record-lengths}
+use Rattle.batching.proofs.BatchLaws.{why, taken-all, refused-all, call-good, record-raw, record-good, record-lengths}
 
 -- ---- the call
 
@@ -38,34 +37,20 @@ call-number now = λ (z : _≡_ {A = ℕ} 1 0). omega arith
 call-number (later g) = second-number g
 
 module _ (F : Form) (list : List ℕ) (s : Tables) (rs : List Record) (m k : ℕ) where
-  abbrev why : ℕ
-  why = first (callRows F s (length rs) m k)
-
-  abbrev all : List Outcome
-  all = oneByOne F (ownReport (length (s .tasks)) (length (s .promises))) list s rs
-
-  taken-all : why ≡ 0 → batched F list s rs m k ≡ done s all
-  unfolding called
-  taken-all e = rw (eq-eqb why 0 e)
-
-  refused-all : why ≢ 0 → batched F list s rs m k ≡ refused why s
-  unfolding called
-  refused-all h = rw (ne-eqb why 0 h)
-
   -- refused by q exactly when it is the number of the first row that applies: "T or P out of bounds, more than 256 records or too little room is 1 for the call, with nothing
   -- written; damaged tables are 2 for the call"
   pub call-refused-by-the-first : (q : ℕ) → batched F list s rs m k .answer ≡ Refused q → FirstGiven q (callRows F s (length rs) m k)
-  call-refused-by-the-first q e = go (ℕ-discrete why 0)
+  call-refused-by-the-first q e = go (ℕ-discrete (why F list s rs m k) 0)
     where
-      go : Dec (why ≡ 0) → FirstGiven q (callRows F s (length rs) m k)
-      go (yes z) = let h : Done (length (allWords all)) ≡ Refused q = sym (ap (λ (o : CallOutcome). o .answer) (taken-all z)) ∙ e in clash cc
+      go : Dec (why F list s rs m k ≡ 0) → FirstGiven q (callRows F s (length rs) m k)
+      go (yes z) = let h : Done _ ≡ Refused q = sym (ap (λ (o : CallOutcome). o .answer) (taken-all F list s rs m k z)) ∙ e in clash cc
       go (no h) =
-          let a : Refused why ≡ Refused q = sym (ap (λ (o : CallOutcome). o .answer) (refused-all h)) ∙ e in
-          let b : why ≡ q = cc in
+          let a : Refused (why F list s rs m k) ≡ Refused q = sym (ap (λ (o : CallOutcome). o .answer) (refused-all F list s rs m k h)) ∙ e in
+          let b : why F list s rs m k ≡ q = cc in
           first-given (callRows F s (length rs) m k) q (λ (z : q ≡ 0). h (b ∙ z)) b
 
   pub the-first-refuses-the-call : (q : ℕ) → FirstGiven q (callRows F s (length rs) m k) → batched F list s rs m k ≡ refused q s
-  the-first-refuses-the-call q g = refused-all (λ (z : why ≡ 0). call-number g (sym (given-first g) ∙ z)) ∙ ap (λ (r : ℕ). refused r s) (given-first g)
+  the-first-refuses-the-call q g = refused-all F list s rs m k (λ (z : why F list s rs m k ≡ 0). call-number g (sym (given-first g) ∙ z)) ∙ ap (λ (r : ℕ). refused r s) (given-first g)
 
 -- ---- "Tables, answers and words must equal those of the same steps taken one by one, each with a report of its own."
 

@@ -71,6 +71,7 @@ pub data Taken (F : Form) (list : List ℕ) : Tables → List Record → List Ou
 -- ---- the call
 
 -- "T or P out of bounds, more than 256 records or too little room is 1 for the call": "The report must have room for P + 2T words per record, and the answers for every record."
+-- An answer record is four words.
 unfoldable pub hasRoom : Form → ℕ → ℕ → ℕ → ℕ → ℕ → Bool
 hasRoom F T P n m k = sizesInBounds F T P && leb n mostRecords && leb (n * ownReport T P) m && leb (4 * n) k
 

@@ -26,6 +26,7 @@ module _ (F : Form) (n : ℕ) (list : List ℕ) (s : Tables) (r : Record) where
   pub the-step-it-names : (r .kind ≡ Async → r .start + r .length ≤ length list) → stepRecord F n list s r ≡ step F n s (stepOf list r)
   the-step-it-names h = ap (guarded (first (tableRows F n s)) s) (guarded-none (first (partRows list r)) s (raw F s (stepOf list r)) (part-not-given list r h))
 
+  -- from 3 on
   in-order : (x : Step) → numbers (rows F s x) ≡ drop 2 (paperRows x)
   in-order (step-new t p) = refl
   in-order (step-set t p) = refl
@@ -40,12 +41,13 @@ module _ (F : Form) (n : ℕ) (list : List ℕ) (s : Tables) (r : Record) where
   pub sixteen-after-two : numbers recordRows ≡ 1 ∷ 2 ∷ 16 ∷ drop 2 (paperRows (stepOf list r))
   sixteen-after-two = ap (λ (l : List ℕ). 1 ∷ 2 ∷ 16 ∷ l) (in-order (stepOf list r))
 
-  -- a record's step is refused by a number exactly when it is that of the first of these that applies; and then nothing changes
+  -- one guard by all of them
   joined : stepRecord F n list s r ≡ guarded (first recordRows) s (effect F s (stepOf list r))
   joined =
       ap (guarded (first (tableRows F n s)) s) (guarded-joined (rows F s (stepOf list r)) s (effect F s (stepOf list r)) part-numbered)
       ∙ guarded-joined (partRows list r ++ rows F s (stepOf list r)) s (effect F s (stepOf list r)) (tableRows-numbered F n s)
 
+  -- a record's step is refused by a number exactly when it is that of the first of these that applies; and then nothing changes
   pub record-refused-by-the-first : (q : ℕ) → stepRecord F n list s r .answer ≡ Refused q → FirstGiven q recordRows
   record-refused-by-the-first q e =
       guarded-refused recordRows s (effect F s (stepOf list r)) (effect-not-plain F s (stepOf list r)) q (sym (ap (λ (o : Outcome). o .answer) joined) ∙ e)
