@@ -3,12 +3,10 @@
 use mathlib.Core.Path.{_≡_, refl, sym, ap, subst, _∙_}
 use mathlib.Core.Logic.{inl, inr, _≢_}
 use mathlib.Core.List.{List, [], _∷_}
-use mathlib.Core.Bool.{Bool, true, false, cond}
 use Prim.Native.Nat.{ℕ, _+_, _-_, _≤_, _<_}
 use native.Mathlib.Omega.{arith}
 use native.Mathlib.Decide.{ℕ-discrete}
-use lib.Dec.{eqb, ltb}
-use borrow.Author.Tests.{eqb-true, ltb-false, eq-eqb, ne-eqb, le-leb, lt-leb}
+use borrow.Author.Tests.{eq-eqb, ne-eqb, le-leb, lt-leb}
 use lib.ListN.{length, set, length-set}
 use Rattle.words.specs.Words.{Form, readyWord, endedWord, firstOwned, setWord, unmadeWord, waitsOn, ownedBy, blamedOn}
 use Rattle.words.specs.Lists.{is, In}
@@ -18,8 +16,9 @@ use Rattle.rules.specs.Chains.{Chain, here, Comes, chainEnd, view, waits
 use Rattle.rules.specs.Sound.{Live, TaskWord, PromiseWord, unused, ready, ended, unmade, done, owned, blamed, Sound}
 use Rattle.rules.specs.Sound as sound
 use Rattle.rules.specs.Refusals.{first, entryRefusal, firstBad, newRows, getRows, ownRows, childRows}
-use Rattle.rules.specs.Steps.{Step, step-new, step-set, step-get, step-async, step-end, actor, Outcome, outcome, withMade, withSet, withStarted, withEnded, given, awaits, back, free, walk, followed, got, guarded, started, rows, effect, raw}
-use Rattle.rules.specs.declared.Answer.the-variants.{Value, Blamed, Started, Refused, RefusedAt}
+use Rattle.rules.specs.Steps.{Step, step-new, step-set, step-get, step-async, step-end, actor, Outcome, outcome, withMade, withSet, withEnded, given, awaits, back, free, walk, followed, got, rows, effect, raw}
+use Rattle.rules.specs.declared.Answer.the-variants.{Value, Blamed}
+use Rattle.rules.proofs.GuardLaws.{guarded-is, started-by}
 use Rattle.rules.proofs.Moves.{SoundMoves}
 use Rattle.rules.proofs.RefusalLaws.{actorRows-none, childRows-none, newRows-none, getRows-none, ownRows-none, entryRefusal-none, firstBad-before}
 use Rattle.rules.proofs.SoundTest.{chain-bound}
@@ -31,15 +30,6 @@ pub data Took (B : ℕ) (s : Tables) (t : ℕ) (s′ : Tables) : Type 0 where
   stayed : s′ ≡ s → Took B s t s′
   moved : length (s′ .tasks) ≡ length (s .tasks) → length (s′ .promises) ≡ length (s .promises)
       → SoundMoves (length (s .tasks)) (length (s .promises)) B (view s) (view s′) t → Took B s t s′
-
--- a guard leaves the tables, or lets the outcome through
-pub guarded-is : (r : ℕ) (s : Tables) (o : Outcome) (Q : Tables → Type 0) → Q s → (r ≡ 0 → Q (o .after)) → Q (guarded r s o .after)
-unfolding guarded
-guarded-is r s o Q q h = go (eqb r 0) refl
-  where
-    go : (b : Bool) → eqb r 0 ≡ b → Q (cond b o (outcome (Refused r) s []) .after)
-    go true e = h (eqb-true r 0 e)
-    go false e = q
 
 length-given : (w : ℕ) (l ps : List ℕ) → length (given w l ps) ≡ length ps
 unfolding given
@@ -77,20 +67,14 @@ module _ (F : Form) (s : Tables) (fits : firstOwned + length (s .tasks) ≤ F .b
   -- ---- async
 
   took-async : (t c : ℕ) (list : List ℕ) → first (rows F s (step-async t c list)) ≡ 0 → Took (F .base) s t (effect F s (step-async t c list) .after)
-  unfolding started
-  took-async t c list e = go (ltb bad (length list)) refl
-    where
-      bad : ℕ
-      bad = firstBad (entryRefusal (F .base) (s .promises) t list) (length list) 0
-
-      go : (b : Bool) → ltb bad (length list) ≡ b → Took (F .base) s t (cond b (outcome (RefusedAt (entryRefusal (F .base) (s .promises) t list bad) bad) s []) (outcome Started (withStarted s c list) []) .after)
-      go true x = stayed refl
-      go false x =
-          let (a, e₁) = actorRows-none (s .tasks) t (childRows (s .tasks) c) e in
-          let (b, d) = childRows-none (s .tasks) c e₁ in
-          let good = entries-good (F .base) s t list (ltb-false bad (length list) x) in
-          moved (length-set (s .tasks) c readyWord) (length-given (ownedBy c) list (s .promises))
-          (async-sound (length (s .tasks)) (length (s .promises)) (F .base) fits s sd t (a .below) (a .ready) c b b d list (λ q i. good q i .0) (λ q i. good q i .1))
+  took-async t c list e =
+      started-by (λ (o : Outcome). Took (F .base) s t (o .after)) (F .base) s t c list _ (λ x. stayed refl)
+      (λ x.
+      let (a, e₁) = actorRows-none (s .tasks) t (childRows (s .tasks) c) e in
+      let (b, d) = childRows-none (s .tasks) c e₁ in
+      let good = entries-good (F .base) s t list x in
+      moved (length-set (s .tasks) c readyWord) (length-given (ownedBy c) list (s .promises))
+      (async-sound (length (s .tasks)) (length (s .promises)) (F .base) fits s sd t (a .below) (a .ready) c b b d list (λ q i. good q i .0) (λ q i. good q i .1)))
 
   -- ---- get
 
@@ -162,8 +146,8 @@ module _ (F : Form) (s : Tables) (fits : firstOwned + length (s .tasks) ≤ F .b
 
   -- each step of any task, with any numbers, refused and alarmed ones too, by the rules without refusals 1 and 2
   pub took-raw : (x : Step) → Took (F .base) s (actor x) (raw F s x .after)
-  took-raw (step-new t p) = guarded-is _ s _ (Took (F .base) s t) (stayed refl) (took-new t p)
-  took-raw (step-set t p) = guarded-is _ s _ (Took (F .base) s t) (stayed refl) (took-set t p)
-  took-raw (step-get t p) = guarded-is _ s _ (Took (F .base) s t) (stayed refl) (took-get t p)
-  took-raw (step-async t c list) = guarded-is _ s _ (Took (F .base) s t) (stayed refl) (took-async t c list)
-  took-raw (step-end t) = guarded-is _ s _ (Took (F .base) s t) (stayed refl) (took-end t)
+  took-raw (step-new t p) = guarded-is _ _ s _ (Took (F .base) s t) (stayed refl) (took-new t p)
+  took-raw (step-set t p) = guarded-is _ _ s _ (Took (F .base) s t) (stayed refl) (took-set t p)
+  took-raw (step-get t p) = guarded-is _ _ s _ (Took (F .base) s t) (stayed refl) (took-get t p)
+  took-raw (step-async t c list) = guarded-is _ _ s _ (Took (F .base) s t) (stayed refl) (took-async t c list)
+  took-raw (step-end t) = guarded-is _ _ s _ (Took (F .base) s t) (stayed refl) (took-end t)

@@ -1,31 +1,32 @@
 -- Demand 2 over the definitions, its second sentence: a get alarms exactly when the owners from the promise lead back to the asker, and reports that ring; the
 -- count that it answers is the number of these owners, alarm or not. It answers value and blamed exactly of a set and a blamed promise. Assumes nothing.
 use mathlib.Core.Path.{_≡_, sym, ap, subst, _∙_}
-use mathlib.Core.Logic.{inl, _≢_}
+use mathlib.Core.Logic.{_≢_}
 use mathlib.Core.List.{List, [], _∷_}
 use Prim.Native.Nat.{ℕ, suc, _+_, _-_, _≤_, _<_}
 use native.Mathlib.Omega.{arith}
-use borrow.Author.Tests.{ne-eqb, lt-ltb, lt-leb}
 use lib.ListN.{length, length-set}
-use Rattle.words.specs.Words.{Form, readyWord, waitsOn, firstWait, firstOwned, unmadeWord, setWord, ownedBy, blamedOn}
+use Rattle.words.specs.Words.{Form, readyWord, waitsOn, firstOwned, unmadeWord, setWord, ownedBy, blamedOn}
 use Rattle.words.specs.Lists.{In}
 use Rattle.words.proofs.ListLaws.{within-table}
 use Rattle.rules.specs.Tables.{Tables, taskAt, promiseAt, liveTasks, awaitedBy, ownerOf}
 use Rattle.rules.specs.Chains.{Chain, here, link, chainEnd, view, graph, waits}
 use Rattle.rules.specs.Sound.{Sound}
-use Rattle.rules.specs.Refusals.{first, getRows}
-use Rattle.rules.specs.Steps.{step-get, Outcome, outcome, withWait, back, free, pairs, followed, got, guarded, step}
-use Rattle.rules.specs.Demands.{Apart, Good, OwnersFrom, owners, Ring, closes, leads, Alarm, Wait}
+use Rattle.rules.specs.Refusals.{getRows}
+use Rattle.rules.specs.Steps.{step-get, Outcome, outcome, withWait, back, free, pairs, followed, got, step}
+use Rattle.rules.specs.Demands.{Apart, Good, Refusal, OwnersFrom, owners, Ring, closes, leads, Alarm, Wait}
 use Rattle.rules.specs.declared.Answer.{Answer}
-use Rattle.rules.specs.declared.Answer.the-variants.{Value, Blamed, Waits, Cycle, Refused}
+use Rattle.rules.specs.declared.Answer.the-variants.{Value, Blamed, Waits, Cycle}
+use Rattle.rules.proofs.GuardLaws.{guarded-none}
 use Rattle.rules.proofs.Accepted.{owner-chain, got-back, got-free, got-set, got-blamed, got-is}
 use Rattle.rules.proofs.GraphLaws.{unique, end-ready, ready-is-end, in-end}
-use Rattle.rules.proofs.Kept.{fits}
+use Rattle.rules.proofs.Kept.{fits, ready-passes}
 use Rattle.rules.proofs.Moves.{det}
 use Rattle.rules.proofs.Named.{accepted}
 use Rattle.words.proofs.BoolLaws.{clash}
-use Rattle.rules.proofs.RefusalLaws.{actorRows-none, getRows-none}
-use Rattle.rules.proofs.SoundTest.{chain-bound, live-yes, sound-soundTest}
+use Rattle.rules.proofs.Order.{step-guarded}
+use Rattle.rules.proofs.RefusalLaws.{actorRows-none, getRows-none, made-passes}
+use Rattle.rules.proofs.SoundTest.{chain-bound}
 use Rattle.rules.proofs.StepMoves.{get-chain}
 
 -- ---- the owners from a promise
@@ -58,19 +59,9 @@ ring-of s v p {u} o (link {p = q} {u = x} {l = l} k c) =
 module _ (F : Form) (apart : Apart F) (n : ℕ) (s : Tables) (g : Good F n s) where
   -- a get of a ready task on a promise that was made is not refused
   get-accepted : (t p : ℕ) → taskAt s t ≡ readyWord → promiseAt s p ≢ unmadeWord → step F n s (step-get t p) ≡ got (F .base) s t p (promiseAt s p)
-  unfolding guarded first
   get-accepted t p r m =
-      let b : t < length (s .tasks) = within-table (s .tasks) t (λ (z : taskAt s t ≡ 0). omega arith) in
-      let q : p < length (s .promises) = within-table (s .promises) p m in
-      rw (
-        g .bounds,
-        sound-soundTest (F .base) s (g .sound),
-        lt-ltb t (length (s .tasks)) b,
-        live-yes (taskAt s t) (inl r),
-        lt-leb firstWait (taskAt s t) (omega arith),
-        lt-ltb p (length (s .promises)) q,
-        ne-eqb (promiseAt s p) unmadeWord m,
-      )
+      step-guarded F n s (step-get t p)
+      ∙ guarded-none _ _ s _ (ready-passes F apart n s g t r (getRows (s .promises) p) ∙ made-passes (s .promises) p m)
 
   -- of a set promise it answers value, and of a blamed one who is blamed
   pub get-value : (t p : ℕ) → taskAt s t ≡ readyWord → promiseAt s p ≡ setWord → step F n s (step-get t p) ≡ outcome Value s []
@@ -127,7 +118,7 @@ module _ (F : Form) (apart : Apart F) (n : ℕ) (s : Tables) (g : Good F n s) wh
       a
 
   -- a get that is not refused is one of a ready task, on a promise that was made
-  get-found : (t p : ℕ) (a : Answer) → ((q : ℕ) → Refused q ≡ a → ⊥) → step F n s (step-get t p) .answer ≡ a
+  get-found : (t p : ℕ) (a : Answer) → (Refusal a → ⊥) → step F n s (step-get t p) .answer ≡ a
       → (taskAt s t ≡ readyWord) × (p < length (s .promises)) × (promiseAt s p ≢ unmadeWord) × (step F n s (step-get t p) ≡ got (F .base) s t p (promiseAt s p))
   get-found t p a h e =
       let (z, o) = accepted F n s (step-get t p) a h e in
@@ -137,14 +128,14 @@ module _ (F : Form) (apart : Apart F) (n : ℕ) (s : Tables) (g : Good F n s) wh
 
   pub alarm-means : (t p k : ℕ) → step F n s (step-get t p) .answer ≡ Cycle k → Alarm s t p k (step F n s (step-get t p) .words)
   alarm-means t p k e =
-      let (r, h, m, o) = get-found t p (Cycle k) (λ q (y : Refused q ≡ Cycle k). clash cc) e in
+      let (r, h, m, o) = get-found t p (Cycle k) (λ r. elim r [ ]) e in
       from-outcome t p k (step F n s (step-get t p)) r h m o e
 
   -- and what a wait means
   pub wait-means : (t p k : ℕ) → step F n s (step-get t p) .answer ≡ Waits k → Wait s t p k
   unfolding followed
   wait-means t p k e =
-      let (r, h, m, o) = get-found t p (Waits k) (λ q (y : Refused q ≡ Waits k). clash cc) e in
+      let (r, h, m, o) = get-found t p (Waits k) (λ r. elim r [ ]) e in
       got-is F s (fits F apart n s (g .bounds)) (g .sound) t p (λ (x : Outcome). x .answer ≡ Waits k → Wait s t p k) r h m
       (λ x (z : Value ≡ Waits k). clash cc)
       (λ b y x (z : Blamed b ≡ Waits k). clash cc)
@@ -165,7 +156,7 @@ module _ (F : Form) (apart : Apart F) (n : ℕ) (s : Tables) (g : Good F n s) wh
   pub value-means : (t p : ℕ) → step F n s (step-get t p) .answer ≡ Value → (taskAt s t ≡ readyWord) × (promiseAt s p ≡ setWord)
   unfolding followed
   value-means t p e =
-      let (r, h, m, o) = get-found t p Value (λ q (y : Refused q ≡ Value). clash cc) e in (
+      let (r, h, m, o) = get-found t p Value (λ r. elim r [ ]) e in (
         r,
         got-is F s (fits F apart n s (g .bounds)) (g .sound) t p (λ (x : Outcome). x .answer ≡ Value → promiseAt s p ≡ setWord) r h m
             (λ x z. x)
@@ -178,7 +169,7 @@ module _ (F : Form) (apart : Apart F) (n : ℕ) (s : Tables) (g : Good F n s) wh
   pub blamed-means : (t p b : ℕ) → step F n s (step-get t p) .answer ≡ Blamed b → (taskAt s t ≡ readyWord) × (promiseAt s p ≡ blamedOn (F .base) b)
   unfolding followed
   blamed-means t p b e =
-      let (r, h, m, o) = get-found t p (Blamed b) (λ q (y : Refused q ≡ Blamed b). clash cc) e in (
+      let (r, h, m, o) = get-found t p (Blamed b) (λ r. elim r [ ]) e in (
         r,
         got-is F s (fits F apart n s (g .bounds)) (g .sound) t p (λ (x : Outcome). x .answer ≡ Blamed b → promiseAt s p ≡ blamedOn (F .base) b) r h m
             (λ x (z : Value ≡ Blamed b). clash cc)

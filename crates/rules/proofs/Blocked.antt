@@ -3,21 +3,19 @@
 use mathlib.Core.Path.{_≡_, ap, _∙_}
 use mathlib.Core.Logic.{_⊎_, inl, inr, _≢_}
 use mathlib.Core.List.{List, []}
-use mathlib.Core.Bool.{Bool, true, false, cond}
+use mathlib.Core.Bool.{true}
 use Prim.Native.Nat.{ℕ}
 use native.Mathlib.Omega.{arith}
 use native.Mathlib.Decide.{ℕ-discrete}
-use lib.Dec.{eqb, ltb}
+use lib.Dec.{eqb}
 use borrow.Author.Tests.{eq-eqb, le-leb}
-use lib.ListN.{length}
 use lib.Seq.{getD-set-same, getD-set-other}
 use Rattle.words.specs.Words.{Form, unusedWord, readyWord, waitsOn, setWord, ownedBy, blamedOn}
 use Rattle.words.proofs.BoolLaws.{or-left, or-right}
 use Rattle.rules.specs.Tables.{Tables, taskAt, promiseAt, closed}
-use Rattle.rules.specs.Refusals.{first, tableRows, entryRefusal, firstBad, getRows, ownRows, childRows}
-use Rattle.rules.specs.Steps.{Step, step-new, step-set, step-get, step-async, step-end, Outcome, outcome, withSet, withStarted, withEnded, started, rows, effect, raw, step}
-use Rattle.rules.specs.declared.Answer.the-variants.{Started, RefusedAt}
-use Rattle.rules.proofs.Accepted.{guarded-is}
+use Rattle.rules.specs.Refusals.{first, tableRows, getRows, ownRows, childRows}
+use Rattle.rules.specs.Steps.{Step, step-new, step-set, step-get, step-async, step-end, Outcome, withSet, withEnded, rows, effect, raw, step}
+use Rattle.rules.proofs.GuardLaws.{guarded-is, started-by}
 use Rattle.rules.proofs.Order.{got-cases}
 use Rattle.rules.proofs.RefusalLaws.{actorRows-none, childRows-none, ownRows-none}
 use Rattle.rules.proofs.StepMoves.{set-hit, set-miss, blame-hit, end-hit, end-miss}
@@ -55,18 +53,10 @@ module _ (F : Form) (s : Tables) (v p : ℕ) (w : taskAt s v ≡ waitsOn p) wher
       (λ k. inl (getD-set-other (s .tasks) t v (waitsOn q) 0 (not-waiter t (inl (act .ready))) ∙ w))
 
   by-async : (t c : ℕ) (list : List ℕ) → first (rows F s (step-async t c list)) ≡ 0 → Blocked (effect F s (step-async t c list) .after)
-  unfolding started
   by-async t c list z =
       let (act, z₁) = actorRows-none (s .tasks) t (childRows (s .tasks) c) z in
-      go (ltb place (length list)) (not-waiter c (inr (childRows-none (s .tasks) c z₁ .1)))
-    where
-      place : ℕ
-      place = firstBad (entryRefusal (F .base) (s .promises) t list) (length list) 0
-
-      go : (b : Bool) → v ≢ c
-          → Blocked (cond b (outcome (RefusedAt (entryRefusal (F .base) (s .promises) t list place) place) s []) (outcome Started (withStarted s c list) []) .after)
-      go true h = inl w
-      go false h = inl (getD-set-other (s .tasks) c v readyWord 0 h ∙ w)
+      started-by (λ (o : Outcome). Blocked (o .after)) (F .base) s t c list _ (λ h. inl w)
+      (λ h. inl (getD-set-other (s .tasks) c v readyWord 0 (not-waiter c (inr (childRows-none (s .tasks) c z₁ .1))) ∙ w))
 
   by-end : (t : ℕ) → first (rows F s (step-end t)) ≡ 0 → Blocked (withEnded (F .base) s t)
   by-end t z =
@@ -89,4 +79,4 @@ module _ (F : Form) (s : Tables) (v p : ℕ) (w : taskAt s v ≡ waitsOn p) wher
 
   -- a step leaves the word of a task that waits on p, or closes p and makes the task ready
   pub blocks : (n : ℕ) (x : Step) → Blocked (step F n s x .after)
-  blocks n x = guarded-is (first (tableRows F n s)) s (raw F s x) Blocked (inl w) (λ z. guarded-is (first (rows F s x)) s (effect F s x) Blocked (inl w) (by-effect x))
+  blocks n x = guarded-is _ (first (tableRows F n s)) s (raw F s x) Blocked (inl w) (λ z. guarded-is _ (first (rows F s x)) s (effect F s x) Blocked (inl w) (by-effect x))

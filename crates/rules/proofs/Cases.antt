@@ -1,13 +1,14 @@
--- The proved set: the rules give each row of specs/ProvedSet.antt, by computation. Assumes nothing.
+-- The proved sets: the rules give each row of specs/ProvedSet.antt, by computation. Assumes nothing.
 use mathlib.Core.Path.{_≡_, refl}
 use mathlib.Core.List.{map}
 use Rattle.words.specs.Words.{sizesInBounds, inBounds}
 use Rattle.words.specs.Lists.{allBelow, is, places, changed}
 use Rattle.rules.specs.Sound.{hop, comes, taskPasses, promisePasses, soundTest}
+use Rattle.rules.specs.Answers.{refusedWith, refusedAtWith}
 use Rattle.rules.specs.Refusals.{first, differs, entryRefusal, firstBad}
 use Rattle.rules.specs.Steps.{given, awaits, walk, pairs, followed, got, guarded, started}
-use Rattle.rules.specs.ProvedSet.{provedSet, taken, expected}
+use Rattle.rules.specs.ProvedSet.{provedSet, blamedSet, taken, expected}
 
-pub proved-set : map taken provedSet ≡ map expected provedSet
-unfolding sizesInBounds inBounds allBelow is places changed hop comes taskPasses promisePasses soundTest first differs entryRefusal firstBad given awaits walk pairs followed got guarded started
-proved-set = refl
+pub proved-sets : (map taken provedSet ≡ map expected provedSet) × (map taken blamedSet ≡ map expected blamedSet)
+unfolding sizesInBounds inBounds allBelow is places changed hop comes taskPasses promisePasses soundTest first differs entryRefusal firstBad given awaits walk pairs followed got guarded started refusedWith refusedAtWith
+proved-sets = (refl, refl)

@@ -1,12 +1,10 @@
 -- How many words a step reports: as many as its answer counts, and at most P + 2T, whatever the tables hold. Assumes nothing.
 use Prim.Native.Nat.{ℕ, zero, suc, _+_, _*_, _-_, _≤_, _<_}
-use mathlib.Core.Path.{_≡_, refl, sym, subst}
-use mathlib.Core.Logic.{_≢_}
+use mathlib.Core.Path.{_≡_, refl}
 use mathlib.Core.List.{List, []}
 use mathlib.Core.Bool.{Bool, true, false, cond}
 use native.Mathlib.Omega.{arith}
-use native.Mathlib.Decide.{ℕ-discrete}
-use lib.Dec.{eqb, leb, ltb}
+use lib.Dec.{eqb, leb}
 use lib.ListN.{length, length-append}
 use Rattle.words.specs.Words.{Form, setWord, firstOwned, waitsOn, ownedBy}
 use Rattle.words.specs.Lists.{is, places}
@@ -14,28 +12,12 @@ use Rattle.words.proofs.ListLaws.{places-length}
 use Rattle.rules.specs.Tables.{Tables, promiseAt, awaitedBy, ownerOf}
 use Rattle.rules.specs.Sound.{Hop, ready, lost, to, hop}
 use Rattle.rules.specs.Answers.{wordCount}
-use Rattle.rules.specs.Refusals.{entryRefusal}
-use Rattle.rules.specs.Steps.{Step, step-new, step-set, step-get, step-async, step-end, Outcome, outcome, Found, astray, back, free, walk, walkBy, pairs, awaits, withStarted, followed, got, guarded, started, effect, raw, step}
-use Rattle.rules.specs.declared.Answer.the-variants.{Value, Blamed, Started, Refused, RefusedAt}
-use Rattle.rules.proofs.Order.{guarded-none, guarded-some, got-cases}
-
--- ---- what holds of an outcome by its cases
-
-pub guarded-by : (Q : Outcome → Type 0) (r : ℕ) (s : Tables) (o : Outcome) → (r ≢ 0 → Q (outcome (Refused r) s [])) → (r ≡ 0 → Q o) → Q (guarded r s o)
-guarded-by Q r s o refused passed = go (ℕ-discrete r 0)
-  where
-    go : Dec (r ≡ 0) → Q (guarded r s o)
-    go (yes z) = subst Q (sym (guarded-none r s o z)) (passed z)
-    go (no m) = subst Q (sym (guarded-some r s o m)) (refused m)
-
-pub started-by : (Q : Outcome → Type 0) (B : ℕ) (s : Tables) (t c : ℕ) (list : List ℕ) (i : ℕ)
-    → Q (outcome (RefusedAt (entryRefusal B (s .promises) t list i) i) s []) → Q (outcome Started (withStarted s c list) []) → Q (started B s t c list i)
-unfolding started
-started-by Q B s t c list i stopped passed = go (ltb i (length list))
-  where
-    go : (b : Bool) → Q (cond b (outcome (RefusedAt (entryRefusal B (s .promises) t list i) i) s []) (outcome Started (withStarted s c list) []))
-    go true = stopped
-    go false = passed
+use Rattle.rules.specs.Steps.{Step, step-new, step-set, step-get, step-async, step-end, Outcome, outcome, Found, astray, back, free, walk, walkBy, pairs, awaits, followed, got, stepRefused, entryRefused, effect, raw, step}
+use Rattle.rules.specs.declared.Answer.{Answer}
+use Rattle.rules.specs.declared.Answer.the-variants.{Value, Blamed}
+use Rattle.rules.proofs.GuardLaws.{guarded-by, started-by}
+use Rattle.rules.proofs.AnswerLaws.{at-with-by, stepRefused-by}
+use Rattle.rules.proofs.Order.{got-cases}
 
 pub pairs-length : (k : ℕ) (s : Tables) (t p : ℕ) → length (pairs k s t p) ≡ 2 * k
 unfolding pairs
@@ -67,23 +49,29 @@ walk-reached (suc n) s t u k h = go (eqb u t) (hop s u) (λ x. walk-reached n s 
 abbrev Counted : Outcome → Type 0
 Counted o = length (o .words) ≡ wordCount (o .answer)
 
+-- a refusal has no words
+refused-counted : (F : Form) (s : Tables) (x : Step) (r : ℕ) → Counted (outcome (stepRefused F s x r) s [])
+unfolding wordCount
+refused-counted F s x r = stepRefused-by (λ (a : Answer). 0 ≡ wordCount a) F s x r (λ b e. refl) refl
+
+entry-counted : (B : ℕ) (s : Tables) (t : ℕ) (list : List ℕ) (i : ℕ) → Counted (outcome (entryRefused B s t list i) s [])
+unfolding wordCount
+entry-counted B s t list i = at-with-by (λ (a : Answer). 0 ≡ wordCount a) _ i _ (λ e. refl) (λ n. refl)
+
 effect-counted : (F : Form) (s : Tables) (x : Step) → Counted (effect F s x)
 unfolding wordCount
 effect-counted F s (step-new t p) = refl
 effect-counted F s (step-set t p) = refl
 effect-counted F s (step-get t p) = got-cases Counted (F .base) s t p (promiseAt s p) refl (λ b. refl) (λ k. pairs-length k s t p) (λ k. refl)
-effect-counted F s (step-async t c list) = started-by Counted (F .base) s t c list _ refl refl
+effect-counted F s (step-async t c list) = started-by Counted (F .base) s t c list _ (λ h. entry-counted (F .base) s t list _) (λ h. refl)
 effect-counted F s (step-end t) = length-append (places (is (ownedBy t)) 0 (s .promises)) (places (awaits (s .promises) (ownedBy t)) 0 (s .tasks))
 
-refused-counted : (r : ℕ) (s : Tables) → Counted (outcome (Refused r) s [])
-unfolding wordCount
-refused-counted r s = refl
-
 pub raw-counted : (F : Form) (s : Tables) (x : Step) → Counted (raw F s x)
-raw-counted F s x = guarded-by Counted _ s _ (λ m. refused-counted _ s) (λ z. effect-counted F s x)
+raw-counted F s x = guarded-by Counted _ _ s _ (λ m. refused-counted F s x _) (λ z. effect-counted F s x)
 
 pub step-counted : (F : Form) (n : ℕ) (s : Tables) (x : Step) → Counted (step F n s x)
-step-counted F n s x = guarded-by Counted _ s _ (λ m. refused-counted _ s) (λ z. raw-counted F s x)
+unfolding wordCount
+step-counted F n s x = guarded-by Counted _ _ s _ (λ m. refl) (λ z. raw-counted F s x)
 
 -- ---- at most P + 2T
 
@@ -106,11 +94,11 @@ module _ (F : Form) (s : Tables) where
   effect-room (step-new t p) = omega arith
   effect-room (step-set t p) = omega (arith, places-length (is (waitsOn p)) 0 (s .tasks))
   effect-room (step-get t p) = got-room t p (promiseAt s p)
-  effect-room (step-async t c list) = started-by HasRoom (F .base) s t c list _ (omega arith) (omega arith)
+  effect-room (step-async t c list) = started-by HasRoom (F .base) s t c list _ (λ h. omega arith) (λ h. omega arith)
   effect-room (step-end t) = rw length-append (omega (arith, places-length (is (ownedBy t)) 0 (s .promises), places-length (awaits (s .promises) (ownedBy t)) 0 (s .tasks)))
 
   pub raw-room : (x : Step) → HasRoom (raw F s x)
-  raw-room x = guarded-by HasRoom _ s _ (λ m. omega arith) (λ z. effect-room x)
+  raw-room x = guarded-by HasRoom _ _ s _ (λ m. omega arith) (λ z. effect-room x)
 
   pub step-room : (n : ℕ) (x : Step) → HasRoom (step F n s x)
-  step-room n x = guarded-by HasRoom _ s _ (λ m. omega arith) (λ z. raw-room x)
+  step-room n x = guarded-by HasRoom _ _ s _ (λ m. omega arith) (λ z. raw-room x)

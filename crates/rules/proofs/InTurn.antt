@@ -1,23 +1,22 @@
 -- Demand 3, its last sentence: ending the tasks of a chain in turn, farthest first, takes one link off at each end; each of these ends is accepted. Assumes nothing.
 use mathlib.Core.Path.{_≡_, refl, sym, ap, subst, _∙_}
-use mathlib.Core.Logic.{inl}
 use mathlib.Core.List.{List, [], _∷_, _++_, append-assoc, append-nil}
 use Prim.Native.Nat.{ℕ, _+_, _-_, _≤_, _<_}
 use native.Mathlib.Omega.{arith}
-use borrow.Author.Tests.{lt-ltb, lt-leb}
 use lib.ListN.{length, take, drop, length-set, length-append, take-append-drop, length-drop, length-take}
 use lib.Seq.{take-at}
-use Rattle.words.specs.Words.{Form, readyWord, endedWord, ownedBy, firstWait}
+use Rattle.words.specs.Words.{Form, readyWord, endedWord, ownedBy}
 use Rattle.words.proofs.ListLaws.{length-replaced, within-table}
 use Rattle.rules.specs.Tables.{Tables, taskAt}
 use Rattle.rules.specs.Chains.{Chain, here, chainEnd, view, graph, waits}
 use Rattle.rules.specs.Refusals.{first}
-use Rattle.rules.specs.Steps.{Step, step-end, withEnded, awaits, guarded, effect, step, run}
+use Rattle.rules.specs.Steps.{Step, step-end, withEnded, awaits, effect, step, run}
 use Rattle.rules.specs.Demands.{Apart, Good, ends, AllEnd, no-end, an-end}
+use Rattle.rules.proofs.GuardLaws.{guarded-none}
 use Rattle.rules.proofs.GraphLaws.{end-ready, shorter, shorter-word}
-use Rattle.rules.proofs.Kept.{good-run}
+use Rattle.rules.proofs.Kept.{good-run, ready-passes}
 use Rattle.rules.proofs.Moves.{det, frame}
-use Rattle.rules.proofs.SoundTest.{live-yes, sound-soundTest}
+use Rattle.rules.proofs.Order.{step-guarded}
 use Rattle.rules.proofs.StepMoves.{woken, end-moves, end-wakes}
 
 -- ---- lists of ends
@@ -53,16 +52,8 @@ module _ (F : Form) (apart : Apart F) (n : ℕ) where
 
   -- the end of a ready task is accepted
   pub end-accepted : (s : Tables) → Good F n s → (t : ℕ) → taskAt s t ≡ readyWord → step F n s (step-end t) ≡ effect F s (step-end t)
-  unfolding guarded first
-  end-accepted s g t r =
-      let b : t < length (s .tasks) = within-table (s .tasks) t (λ (z : taskAt s t ≡ 0). omega arith) in
-      rw (
-        g .bounds,
-        sound-soundTest (F .base) s (g .sound),
-        lt-ltb t (length (s .tasks)) b,
-        live-yes (taskAt s t) (inl r),
-        lt-leb firstWait (taskAt s t) (omega arith),
-      )
+  unfolding first
+  end-accepted s g t r = step-guarded F n s (step-end t) ∙ guarded-none _ _ s _ (ready-passes F apart n s g t r [])
 
   module _ (s : Tables) (g : Good F n s) (v e : ℕ) where
     abbrev ended : Tables

@@ -1,46 +1,45 @@
 -- Every step keeps sound tables sound, all-zero and fresh tables are sound, and so are the tables after any steps from fresh ones. Assumes nothing.
 use mathlib.Core.Path.{_≡_, refl, sym, ap, subst, subst₂, _∙_}
 use mathlib.Core.Logic.{_⊎_, inl, inr}
-use mathlib.Core.List.{List, [], _∷_}
-use mathlib.Core.Bool.{true, not}
+use mathlib.Core.List.{List, [], _∷_, _++_}
+use mathlib.Core.Bool.{true}
 use Prim.Native.Nat.{ℕ, _+_, _*_, _≤_, _<_}
 use native.Mathlib.Omega.{arith}
 use native.Mathlib.Decide.{ℕ-discrete, decLt}
+use borrow.Author.Tests.{lt-ltb, lt-leb}
 use lib.ListN.{length, getD, replicate, length-set, length-replicate, getD-replicate, List·getD-eq-default}
 use lib.Seq.{getD-set-same, getD-set-other}
-use Rattle.words.specs.Words.{Form, inBounds, unusedWord, readyWord, waitsOn, firstOwned}
+use Rattle.words.specs.Words.{Form, inBounds, unusedWord, readyWord, waitsOn, firstWait, firstOwned}
+use Rattle.words.proofs.ListLaws.{within-table}
 use Rattle.words.proofs.WordLaws.{inBounds-true, inBounds-of}
 use Rattle.rules.specs.Tables.{Tables, tables, taskAt, fresh}
 use Rattle.rules.specs.Chains.{view}
-use Rattle.rules.specs.Sound.{Live, TaskWord, unused, ready, unmade, SoundView, Sound, soundTest}
-use Rattle.rules.specs.Refusals.{first, tableRows}
+use Rattle.rules.specs.Sound.{Live, TaskWord, unused, ready, unmade, SoundView, Sound}
+use Rattle.rules.specs.Refusals.{Row, first, tableRows, actorRows}
 use Rattle.rules.specs.Steps.{Step, actor, raw, step, run}
 use Rattle.rules.specs.Demands.{Apart, Good}
-use Rattle.rules.proofs.Accepted.{Took, stayed, moved, guarded-is, took-raw}
+use Rattle.rules.proofs.GuardLaws.{guarded-is}
+use Rattle.rules.proofs.Accepted.{Took, stayed, moved, took-raw}
 use Rattle.rules.proofs.Moves.{sound-step}
-use Rattle.rules.proofs.RefusalLaws.{first-none, not-is-false}
-use Rattle.rules.proofs.SoundTest.{soundTest-sound, sound-soundTest}
+use Rattle.rules.proofs.GivesLaws.{tableRows-none}
+use Rattle.rules.proofs.SoundTest.{live-yes, soundTest-sound, sound-soundTest}
 
 module _ (F : Form) (apart : Apart F) (n : ℕ) where
   -- the owned words of tables within their bounds end before the blamed ones begin
   pub fits : (s : Tables) → inBounds F (length (s .tasks)) (length (s .promises)) n ≡ true → firstOwned + length (s .tasks) ≤ F .base
   fits s b = omega (arith, apart, inBounds-true F (length (s .tasks)) (length (s .promises)) n b .tasks)
 
-  -- refusal 1 is not given
+  -- refusals 1 and 2 are not given
   bounds-of : (s : Tables) → first (tableRows F n s) ≡ 0 → inBounds F (length (s .tasks)) (length (s .promises)) n ≡ true
-  bounds-of s e = not-is-false _ (first-none 1 (not (inBounds F (length (s .tasks)) (length (s .promises)) n)) _ (λ (z : _≡_ {A = ℕ} 1 0). omega arith) e .0)
+  bounds-of s e = tableRows-none F n s e .0
 
-  -- nor is refusal 2
   sound-of : (s : Tables) → first (tableRows F n s) ≡ 0 → Sound (F .base) s
-  sound-of s e =
-      let (a, e₁) = first-none 1 (not (inBounds F (length (s .tasks)) (length (s .promises)) n)) _ (λ (z : _≡_ {A = ℕ} 1 0). omega arith) e in
-      let (b, e₂) = first-none 2 (not (soundTest (F .base) s)) _ (λ (z : _≡_ {A = ℕ} 2 0). omega arith) e₁ in
-      soundTest-sound (F .base) s (fits s (bounds-of s e)) (not-is-false (soundTest (F .base) s) b)
+  sound-of s e = soundTest-sound (F .base) s (fits s (bounds-of s e)) (tableRows-none F n s e .1)
 
   -- each step of any task, with any numbers, from any tables: those that are damaged or out of bounds stay as they were
   pub took-step : (s : Tables) (x : Step) → Took (F .base) s (actor x) (step F n s x .after)
   took-step s x =
-      guarded-is (first (tableRows F n s)) s (raw F s x) (Took (F .base) s (actor x)) (stayed refl) (λ e. took-raw F s (fits s (bounds-of s e)) (sound-of s e) x)
+      guarded-is _ (first (tableRows F n s)) s (raw F s x) (Took (F .base) s (actor x)) (stayed refl) (λ e. took-raw F s (fits s (bounds-of s e)) (sound-of s e) x)
 
   sound-by : (s s′ : Tables) (t : ℕ) → firstOwned + length (s .tasks) ≤ F .base → Sound (F .base) s → Took (F .base) s t s′ → Sound (F .base) s′
   sound-by s s′ t f sd (stayed e) = subst (Sound (F .base)) (sym e) sd
@@ -51,7 +50,7 @@ module _ (F : Form) (apart : Apart F) (n : ℕ) where
   -- a step leaves the tables sound, from any sound tables
   pub sound-kept : (s : Tables) → Sound (F .base) s → (x : Step) → Sound (F .base) (step F n s x .after)
   sound-kept s sd x =
-      guarded-is (first (tableRows F n s)) s (raw F s x) (Sound (F .base)) sd
+      guarded-is _ (first (tableRows F n s)) s (raw F s x) (Sound (F .base)) sd
       (λ e. sound-by s (raw F s x .after) (actor x) (fits s (bounds-of s e)) sd (took-raw F s (fits s (bounds-of s e)) sd x))
 
   -- and as long as they were
@@ -66,6 +65,19 @@ module _ (F : Form) (apart : Apart F) (n : ℕ) where
   pub good-passes : (s : Tables) → Good F n s → first (tableRows F n s) ≡ 0
   unfolding first
   good-passes s g = rw (g .bounds, sound-soundTest (F .base) s (g .sound)) refl
+
+  -- and a ready task may act: none of the first five is given
+  pub ready-passes : (s : Tables) → Good F n s → (t : ℕ) → taskAt s t ≡ readyWord → (rows : List Row) → first (tableRows F n s ++ (actorRows (s .tasks) t ++ rows)) ≡ first rows
+  unfolding first
+  ready-passes s g t r rows =
+      let b : t < length (s .tasks) = within-table (s .tasks) t (λ (z : taskAt s t ≡ 0). omega arith) in
+      rw (
+        g .bounds,
+        sound-soundTest (F .base) s (g .sound),
+        lt-ltb t (length (s .tasks)) b,
+        live-yes (taskAt s t) (inl r),
+        lt-leb firstWait (taskAt s t) (omega arith),
+      )
 
   pub good-step : (s : Tables) (x : Step) → Good F n s → Good F n (step F n s x .after)
   good-step s x g =

@@ -1,7 +1,9 @@
 pub mod Cases
+pub mod AnswerLaws
 pub mod RefusalLaws
 pub mod PlaceLaws
 pub mod GivesLaws
+pub mod GuardLaws
 pub mod GraphLaws
 pub mod Moves
 pub mod WalkLaws
@@ -15,6 +17,7 @@ pub mod Order
 pub mod Counts
 pub mod Named
 pub mod Alarms
+pub mod Blame
 pub mod Policy
 pub mod Once
 pub mod Blocked

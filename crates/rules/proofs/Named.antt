@@ -16,11 +16,11 @@ use Rattle.rules.specs.Tables.{Tables, taskAt, promiseAt}
 use Rattle.rules.specs.Sound.{Sound}
 use Rattle.rules.specs.Refusals.{first, tableRows, ownRows}
 use Rattle.rules.specs.Steps.{Step, step-set, step-end, Outcome, awaits, withEnded, guarded, rows, effect, raw, step}
-use Rattle.rules.specs.Demands.{Named, Woken}
+use Rattle.rules.specs.Demands.{Refusal, plain, Named, Woken}
 use Rattle.rules.specs.declared.Answer.{Answer}
-use Rattle.rules.specs.declared.Answer.the-variants.{Set, Ended, Refused}
-use Rattle.words.proofs.BoolLaws.{clash}
-use Rattle.rules.proofs.Order.{guarded-none, guarded-some}
+use Rattle.rules.specs.declared.Answer.the-variants.{Set, Ended}
+use Rattle.rules.proofs.AnswerLaws.{stepRefused-refuses}
+use Rattle.rules.proofs.GuardLaws.{guarded-by}
 use Rattle.rules.proofs.RefusalLaws.{actorRows-none, ownRows-none}
 use Rattle.rules.proofs.StepMoves.{awaits-hit, awaits-true, set-hit, set-miss, blame-hit, blame-miss, end-hit, end-miss, end-actor}
 
@@ -35,25 +35,20 @@ passes-place f ws x h e =
 
 -- ---- an answer that is no refusal comes from the effect
 
-guarded-let : (r : ℕ) (s : Tables) (o : Outcome) (a : Answer) → ((q : ℕ) → Refused q ≡ a → ⊥) → guarded r s o .answer ≡ a → (r ≡ 0) × (guarded r s o ≡ o)
-guarded-let r s o a h e = go (ℕ-discrete r 0)
-  where
-    go : Dec (r ≡ 0) → (r ≡ 0) × (guarded r s o ≡ o)
-    go (yes z) = (z, guarded-none r s o z)
-    go (no n) = absurd (h r (sym (ap (λ (x : Outcome). x .answer) (guarded-some r s o n)) ∙ e))
+guarded-let : (f : ℕ → Answer) → ((q : ℕ) → Refusal (f q)) → (r : ℕ) (s : Tables) (o : Outcome) → (Refusal (guarded f r s o .answer) → ⊥) → (r ≡ 0) × (guarded f r s o ≡ o)
+guarded-let f refuses r s o = guarded-by (λ (x : Outcome). (Refusal (x .answer) → ⊥) → (r ≡ 0) × (x ≡ o)) f r s o (λ n h. absurd (h (refuses r))) (λ z h. (z, refl))
 
-pub accepted : (F : Form) (n : ℕ) (s : Tables) (x : Step) (a : Answer) → ((q : ℕ) → Refused q ≡ a → ⊥) → step F n s x .answer ≡ a
-    → (first (rows F s x) ≡ 0) × (step F n s x ≡ effect F s x)
+pub accepted : (F : Form) (n : ℕ) (s : Tables) (x : Step) (a : Answer) → (Refusal a → ⊥) → step F n s x .answer ≡ a → (first (rows F s x) ≡ 0) × (step F n s x ≡ effect F s x)
 accepted F n s x a h e =
-    let (z, o) = guarded-let (first (tableRows F n s)) s (raw F s x) a h e in
-    let (z₁, o₁) = guarded-let (first (rows F s x)) s (effect F s x) a h (sym (ap (λ (y : Outcome). y .answer) o) ∙ e) in
+    let (z, o) = guarded-let _ plain (first (tableRows F n s)) s (raw F s x) (λ w. h (subst Refusal e w)) in
+    let (z₁, o₁) = guarded-let _ (stepRefused-refuses F s x) (first (rows F s x)) s (effect F s x) (λ w. h (subst Refusal (sym (ap (λ (y : Outcome). y .answer) o) ∙ e) w)) in
     (z₁, o ∙ o₁)
 
 -- ---- set
 
 pub set-wakes : (F : Form) (n : ℕ) (s : Tables) (t p m : ℕ) → step F n s (step-set t p) .answer ≡ Set m → Woken s p m (step F n s (step-set t p))
 set-wakes F n s t p m e =
-    let (z, o) = accepted F n s (step-set t p) (Set m) (λ q (y : Refused q ≡ Set m). clash cc) e in
+    let (z, o) = accepted F n s (step-set t p) (Set m) (λ r. elim r [ ]) e in
     let (act, z₁) = actorRows-none (s .tasks) t (ownRows (F .base) (s .promises) t p) z in
     let (h, w, z₂) = ownRows-none (F .base) (s .promises) t p [] z₁ in
     subst (Woken s p m) (sym o) (woken h (sym (ap (λ (y : Outcome). y .answer) o) ∙ e))
@@ -83,7 +78,7 @@ set-wakes F n s t p m e =
 
 pub end-names : (F : Form) (n : ℕ) (s : Tables) → Sound (F .base) s → (t m k : ℕ) → step F n s (step-end t) .answer ≡ Ended m k → Named (F .base) s t m k (step F n s (step-end t))
 end-names F n s sd t m k e =
-    let (z, o) = accepted F n s (step-end t) (Ended m k) (λ q (y : Refused q ≡ Ended m k). clash cc) e in
+    let (z, o) = accepted F n s (step-end t) (Ended m k) (λ r. elim r [ ]) e in
     let (act, z₁) = actorRows-none (s .tasks) t [] z in
     subst (Named (F .base) s t m k) (sym o) (named (act .below) (act .ready) (sym (ap (λ (y : Outcome). y .answer) o) ∙ e))
   where

@@ -3,24 +3,27 @@
 use mathlib.Core.Path.{_≡_, refl, sym, ap, subst, _∙_}
 use mathlib.Core.Logic.{_≢_}
 use mathlib.Core.List.{List, [], _∷_, _++_}
-use mathlib.Core.Bool.{Bool, true, false, cond}
+use mathlib.Core.Bool.{Bool, true, false, cond, not}
 use Prim.Native.Nat.{ℕ, zero, suc, _+_, _-_, _≤_, _<_}
 use native.Mathlib.Omega.{arith}
 use native.Mathlib.Decide.{ℕ-discrete}
-use lib.Dec.{eqb, leb, ltb}
-use borrow.Author.Tests.{eqb-false, eq-eqb, ne-eqb, lt-ltb, ltb-true}
-use lib.ListN.{length}
-use Rattle.words.specs.Words.{Form, setWord, firstOwned}
+use lib.Dec.{eqb, leb}
+use borrow.Author.Tests.{eqb-false, eq-eqb, ne-eqb, lt-ltb}
+use lib.ListN.{length, getD}
+use Rattle.words.specs.Words.{Form, inBounds, setWord, firstOwned}
 use Rattle.words.specs.Lists.{In, top, pop}
 use Rattle.words.proofs.BoolLaws.{clash}
 use Rattle.words.proofs.ListLaws.{in-left, in-right}
-use Rattle.rules.specs.Tables.{Tables, promiseAt}
-use Rattle.rules.specs.Answers.{numberOf, valuesOf}
+use Rattle.rules.specs.Tables.{Tables, promiseAt, blamedTask}
+use Rattle.rules.specs.Sound.{soundTest}
+use Rattle.rules.specs.Answers.{numberOf, valuesOf, byNumber, refusedAtWith}
 use Rattle.rules.specs.Refusals.{Row, first, earlier, tableRows, entryRows, entryRefusal, firstBad}
-use Rattle.rules.specs.Steps.{Step, step-new, step-set, step-get, step-async, step-end, Outcome, outcome, Found, astray, back, free, walk, pairs, withWait, followed, got, guarded, started, withStarted, rows, effect, raw, step}
-use Rattle.rules.specs.Demands.{numbers, paperRows, paperEntryRows, paperNumbers, FirstGiven, now, later, NoneGiven, no-row, not-this, BadPlace, Refusal, plain, placed}
+use Rattle.rules.specs.Steps.{Step, step-new, step-set, step-get, step-async, step-end, Outcome, outcome, Found, astray, back, free, walk, pairs, withWait, followed, got, guarded, entryRefused, started, rows, stepRefused, effect, raw, step}
+use Rattle.rules.specs.Demands.{numbers, paperRows, paperEntryRows, paperNumbers, FirstGiven, now, later, NoneGiven, no-row, not-this, BadPlace, Refusal, plain, placed, blamed, blamed-at, HowRefused, by-row, for-entry}
 use Rattle.rules.specs.declared.Answer.{Answer}
-use Rattle.rules.specs.declared.Answer.the-variants.{Opened, Made, Set, Value, Blamed, Waits, Cycle, Started, Ended, Refused, RefusedAt}
+use Rattle.rules.specs.declared.Answer.the-variants.{Opened, Made, Set, Value, Blamed, Waits, Cycle, Started, Ended, Refused, RefusedAt, RefusedBlamed, RefusedBlamedAt}
+use Rattle.rules.proofs.GuardLaws.{guarded-by, guarded-none, guarded-some, started-by}
+use Rattle.rules.proofs.AnswerLaws.{at-with-by, at-with-number, at-with-same, at-with-refuses, at-with-plain, stepRefused-refuses, stepRefused-number, stepRefused-plain}
 use Rattle.rules.proofs.PlaceLaws.{firstBad-place}
 use Rattle.rules.proofs.RefusalLaws.{Numbered, row, first-append, actorRows-numbered, firstBad-before}
 use Rattle.rules.proofs.RefusalLaws as laws
@@ -58,7 +61,7 @@ first-none-given laws.no-row e = no-row
 first-none-given (row {b = true} n rest) e = absurd (n e)
 first-none-given (row {b = false} n rest) e = not-this (first-none-given rest e)
 
-given-number : {rows : List Row} {r : ℕ} → Numbered rows → FirstGiven r rows → r ≢ 0
+pub given-number : {rows : List Row} {r : ℕ} → Numbered rows → FirstGiven r rows → r ≢ 0
 given-number (row n rest) now = n
 given-number (row n rest) (later g) = given-number rest g
 
@@ -89,29 +92,35 @@ entryRows-numbered B ps t list i = numbered-append (laws.ownRows-numbered B ps t
 
 -- ---- two guards are one
 
-guarded-twice : (a b : ℕ) (s : Tables) (o : Outcome) → guarded a s (guarded b s o) ≡ guarded (earlier a b) s o
+guarded-twice : (f g : ℕ → Answer) (a b : ℕ) (s : Tables) (o : Outcome) → f a ≡ g a → guarded f a s (guarded g b s o) ≡ guarded g (earlier a b) s o
 unfolding guarded earlier
-guarded-twice a b s o = go (eqb a 0) refl
+guarded-twice f g a b s o k = go (eqb a 0) refl
   where
-    go : (x : Bool) → eqb a 0 ≡ x → cond x (cond (eqb b 0) o (outcome (Refused b) s [])) (outcome (Refused a) s []) ≡ cond (eqb (cond x b a) 0) o (outcome (Refused (cond x b a)) s [])
+    go : (x : Bool) → eqb a 0 ≡ x → cond x (cond (eqb b 0) o (outcome (g b) s [])) (outcome (f a) s []) ≡ cond (eqb (cond x b a) 0) o (outcome (g (cond x b a)) s [])
     go true e = refl
-    go false e = rw e
+    go false e = rw (e, k)
 
--- by the rows of both, in their order
-pub guarded-joined : {xs : List Row} (ys : List Row) (s : Tables) (o : Outcome) → Numbered xs → guarded (first xs) s (guarded (first ys) s o) ≡ guarded (first (xs ++ ys)) s o
-guarded-joined {xs} ys s o m = guarded-twice (first xs) (first ys) s o ∙ ap (λ (r : ℕ). guarded r s o) (sym (first-append ys m))
+-- by the rows of both, in their order; f and g refuse by the rows of the first in the same way
+pub guarded-joined : (f g : ℕ → Answer) {xs : List Row} (ys : List Row) (s : Tables) (o : Outcome) → Numbered xs → f (first xs) ≡ g (first xs)
+    → guarded f (first xs) s (guarded g (first ys) s o) ≡ guarded g (first (xs ++ ys)) s o
+guarded-joined f g {xs} ys s o m k = guarded-twice f g (first xs) (first ys) s o k ∙ ap (λ (r : ℕ). guarded g r s o) (sym (first-append ys m))
+
+-- 1 and 2 are given by number alone
+tables-not-17 : (F : Form) (n : ℕ) (s : Tables) → first (tableRows F n s) ≢ 17
+unfolding first
+tables-not-17 F n s = go (not (inBounds F (length (s .tasks)) (length (s .promises)) n)) (not (soundTest (F .base) s))
+  where
+    go : (a b : Bool) → first ((1, a) ∷ (2, b) ∷ []) ≢ 17
+    go true b e = absurd (omega arith)
+    go false true e = absurd (omega arith)
+    go false false e = absurd (omega arith)
+
+pub tables-plain : (F : Form) (n : ℕ) (s : Tables) (x : Step) → Refused (first (tableRows F n s)) ≡ stepRefused F s x (first (tableRows F n s))
+tables-plain F n s x = sym (stepRefused-plain F s x (first (tableRows F n s)) (tables-not-17 F n s))
 
 -- a step is its effect, guarded by all its rows in their order
-pub step-guarded : (F : Form) (n : ℕ) (s : Tables) (x : Step) → step F n s x ≡ guarded (first (tableRows F n s ++ rows F s x)) s (effect F s x)
-step-guarded F n s x = guarded-joined (rows F s x) s (effect F s x) (tableRows-numbered F n s)
-
-pub guarded-none : (r : ℕ) (s : Tables) (o : Outcome) → r ≡ 0 → guarded r s o ≡ o
-unfolding guarded
-guarded-none r s o e = rw (eq-eqb r 0 e)
-
-pub guarded-some : (r : ℕ) (s : Tables) (o : Outcome) → r ≢ 0 → guarded r s o ≡ outcome (Refused r) s []
-unfolding guarded
-guarded-some r s o n = rw (ne-eqb r 0 n)
+pub step-guarded : (F : Form) (n : ℕ) (s : Tables) (x : Step) → step F n s x ≡ guarded (stepRefused F s x) (first (tableRows F n s ++ rows F s x)) s (effect F s x)
+step-guarded F n s x = guarded-joined byNumber (stepRefused F s x) (rows F s x) s (effect F s x) (tableRows-numbered F n s) (tables-plain F n s x)
 
 -- ---- what an effect answers
 
@@ -128,61 +137,50 @@ got-cases Q B s t p w v b c k = go (eqb w setWord) (leb B w) (walk (length (s .t
     go false false (free i) = k i
     go false false astray = k (length (s .tasks))
 
--- not a refusal by number alone
-abbrev pub not-plain : Answer → Type 0
-not-plain a = (r : ℕ) → a ≡ Refused r → ⊥
+started-refuses-at : (B : ℕ) (s : Tables) (t c : ℕ) (list : List ℕ) (i r : ℕ) → started B s t c list i .answer ≡ Refused r → ⊥
+started-refuses-at B s t c list i r =
+    started-by (λ (o : Outcome). o .answer ≡ Refused r → ⊥) B s t c list i (λ h. at-with-by (λ (a : Answer). a ≡ Refused r → ⊥) _ i _ (λ z k. clash cc) (λ z k. clash cc))
+    (λ h (k : Started ≡ Refused r). clash cc)
 
-started-not-plain : (B : ℕ) (s : Tables) (t c : ℕ) (list : List ℕ) (i : ℕ) → not-plain (started B s t c list i .answer)
-unfolding started
-started-not-plain B s t c list i = go (ltb i (length list))
-  where
-    go : (b : Bool) (r : ℕ) → cond b (outcome (RefusedAt (entryRefusal B (s .promises) t list i) i) s []) (outcome Started (withStarted s c list) []) .answer ≡ Refused r → ⊥
-    go true r e = clash cc
-    go false r e = clash cc
-
-pub effect-not-plain : (F : Form) (s : Tables) (x : Step) → not-plain (effect F s x .answer)
-effect-not-plain F s (step-new t p) r e = clash cc
-effect-not-plain F s (step-set t p) r e = clash cc
-effect-not-plain F s (step-get t p) r e = got-cases (λ (o : Outcome). o .answer ≡ Refused r → ⊥) (F .base) s t p (promiseAt s p) (λ z. clash cc) (λ b z. clash cc) (λ k z. clash cc) (λ k z. clash cc) e
-effect-not-plain F s (step-async t c list) r e = started-not-plain (F .base) s t c list _ r e
-effect-not-plain F s (step-end t) r e = clash cc
+-- an effect refuses for an entry of a list alone
+pub effect-refuses-at : (F : Form) (s : Tables) (x : Step) (r : ℕ) → effect F s x .answer ≡ stepRefused F s x r → ⊥
+effect-refuses-at F s (step-new t p) r e = clash cc
+effect-refuses-at F s (step-set t p) r e = elim (subst Refusal (sym e) (stepRefused-refuses F s (step-set t p) r)) [ ]
+effect-refuses-at F s (step-get t p) r e = got-cases (λ (o : Outcome). o .answer ≡ Refused r → ⊥) (F .base) s t p (promiseAt s p) (λ z. clash cc) (λ b z. clash cc) (λ k z. clash cc) (λ k z. clash cc) e
+effect-refuses-at F s (step-async t c list) r e = started-refuses-at (F .base) s t c list _ r e
+effect-refuses-at F s (step-end t) r e = clash cc
 
 -- ---- refused exactly when, and by the first
 
--- a guard's refusal is its number
-guarded-plain : (g : ℕ) (s : Tables) (o : Outcome) → not-plain (o .answer) → (r : ℕ) → guarded g s o .answer ≡ Refused r → (g ≡ r) × (g ≢ 0)
-guarded-plain g s o h r e = go (ℕ-discrete g 0)
-  where
-    go : Dec (g ≡ 0) → (g ≡ r) × (g ≢ 0)
-    go (yes z) = absurd (h r (sym (ap (λ (x : Outcome). x .answer) (guarded-none g s o z)) ∙ e))
-    go (no n) = let k : Refused g ≡ Refused r = sym (ap (λ (x : Outcome). x .answer) (guarded-some g s o n)) ∙ e in (cc, n)
-
--- a guard refuses for no entry
-guarded-placed : (s : Tables) (g : ℕ) (o : Outcome) (r i : ℕ) → guarded g s o .answer ≡ RefusedAt r i → (g ≡ 0) × (o .answer ≡ RefusedAt r i)
-guarded-placed s g o r i e = go (ℕ-discrete g 0)
-  where
-    go : Dec (g ≡ 0) → (g ≡ 0) × (o .answer ≡ RefusedAt r i)
-    go (yes z) = (z, sym (ap (λ (x : Outcome). x .answer) (guarded-none g s o z)) ∙ e)
-    go (no m) = let k : Refused g ≡ RefusedAt r i = sym (ap (λ (x : Outcome). x .answer) (guarded-some g s o m)) ∙ e in clash cc
+-- a guard's refusal is its number, where the outcome behind it is no such refusal
+guarded-number : (f : ℕ → Answer) → ((q : ℕ) → numberOf (f q) ≡ q) → (g : ℕ) (s : Tables) (o : Outcome) (r : ℕ) → (o .answer ≡ f r → ⊥) → guarded f g s o .answer ≡ f r → (g ≡ r) × (g ≢ 0)
+guarded-number f number g s o r h e =
+    guarded-by (λ (x : Outcome). x .answer ≡ f r → (g ≡ r) × (g ≢ 0)) f g s o (λ n k. (sym (number g) ∙ ap numberOf k ∙ number r, n)) (λ z k. absurd (h k)) e
 
 -- refused by the first of any rows
-pub guarded-refused : (xs : List Row) (s : Tables) (o : Outcome) → not-plain (o .answer) → (r : ℕ) → guarded (first xs) s o .answer ≡ Refused r → FirstGiven r xs
-guarded-refused xs s o h r e = let (a, b) = guarded-plain (first xs) s o h r e in first-given xs r (λ (z : r ≡ 0). b (a ∙ z)) a
+pub guarded-refused : (f : ℕ → Answer) → ((q : ℕ) → numberOf (f q) ≡ q) → (xs : List Row) (s : Tables) (o : Outcome) (r : ℕ) → (o .answer ≡ f r → ⊥)
+    → guarded f (first xs) s o .answer ≡ f r → FirstGiven r xs
+guarded-refused f number xs s o r h e = let (a, b) = guarded-number f number (first xs) s o r h e in first-given xs r (λ (z : r ≡ 0). b (a ∙ z)) a
 
-pub guarded-first : {xs : List Row} (s : Tables) (o : Outcome) {r : ℕ} → Numbered xs → FirstGiven r xs → guarded (first xs) s o ≡ outcome (Refused r) s []
-guarded-first {xs} s o m g =
+pub guarded-first : (f : ℕ → Answer) {xs : List Row} (s : Tables) (o : Outcome) {r : ℕ} → Numbered xs → FirstGiven r xs → guarded f (first xs) s o ≡ outcome (f r) s []
+guarded-first f {xs} s o m g =
     let e = given-first g in
     let n = given-number m g in
-    guarded-some (first xs) s o (λ (z : first xs ≡ 0). n (sym e ∙ z)) ∙ ap (λ (q : ℕ). outcome (Refused q) s []) e
+    guarded-some f (first xs) s o (λ (z : first xs ≡ 0). n (sym e ∙ z)) ∙ ap (λ (q : ℕ). outcome (f q) s []) e
 
-pub refused-first : (F : Form) (n : ℕ) (s : Tables) (x : Step) (r : ℕ) → step F n s x .answer ≡ Refused r → FirstGiven r (tableRows F n s ++ rows F s x)
+pub refused-first : (F : Form) (n : ℕ) (s : Tables) (x : Step) (r : ℕ) → step F n s x .answer ≡ stepRefused F s x r → FirstGiven r (tableRows F n s ++ rows F s x)
 refused-first F n s x r e =
-    guarded-refused (tableRows F n s ++ rows F s x) s (effect F s x) (effect-not-plain F s x) r (sym (ap (λ (o : Outcome). o .answer) (step-guarded F n s x)) ∙ e)
+    guarded-refused (stepRefused F s x) (stepRefused-number F s x) (tableRows F n s ++ rows F s x) s (effect F s x) r (effect-refuses-at F s x r)
+    (sym (ap (λ (o : Outcome). o .answer) (step-guarded F n s x)) ∙ e)
 
-pub first-refused : (F : Form) (n : ℕ) (s : Tables) (x : Step) (r : ℕ) → FirstGiven r (tableRows F n s ++ rows F s x) → step F n s x ≡ outcome (Refused r) s []
-first-refused F n s x r g = step-guarded F n s x ∙ guarded-first s (effect F s x) (numbered-append (tableRows-numbered F n s) (rows-numbered F s x)) g
+pub first-refused : (F : Form) (n : ℕ) (s : Tables) (x : Step) (r : ℕ) → FirstGiven r (tableRows F n s ++ rows F s x) → step F n s x ≡ outcome (stepRefused F s x r) s []
+first-refused F n s x r g = step-guarded F n s x ∙ guarded-first (stepRefused F s x) s (effect F s x) (numbered-append (tableRows-numbered F n s) (rows-numbered F s x)) g
 
 -- ---- an entry of an async list
+
+-- what is no refusal by number alone is not a guard's
+guarded-placed : (s : Tables) (g : ℕ) (o : Outcome) (a : Answer) → ((q : ℕ) → Refused q ≡ a → ⊥) → guarded byNumber g s o .answer ≡ a → (g ≡ 0) × (o .answer ≡ a)
+guarded-placed s g o a h e = guarded-by (λ (x : Outcome). x .answer ≡ a → (g ≡ 0) × (o .answer ≡ a)) byNumber g s o (λ m k. absurd (h g k)) (λ z k. (z, k)) e
 
 -- the refusal at the first bad place is one
 firstBad-bad : (f : ℕ → ℕ) (n i : ℕ) → firstBad f n i < i + n → f (firstBad f n i) ≢ 0
@@ -212,49 +210,60 @@ module _ (F : Form) (n : ℕ) (s : Tables) (t c : ℕ) (list : List ℕ) where
   abbrev bad : ℕ
   bad = firstBad refusalOf (length list) 0
 
-  started-placed : (r i : ℕ) → started (F .base) s t c list bad .answer ≡ RefusedAt r i → (bad < length list) × (refusalOf bad ≡ r) × (bad ≡ i)
-  unfolding started
-  started-placed r i e = go (ltb bad (length list)) refl e
-    where
-      go : (b : Bool) → ltb bad (length list) ≡ b → cond b (outcome (RefusedAt (refusalOf bad) bad) s []) (outcome Started (withStarted s c list) []) .answer ≡ RefusedAt r i
-          → (bad < length list) × (refusalOf bad ≡ r) × (bad ≡ i)
-      go true h z = (ltb-true bad (length list) h, cc, cc)
-      go false h z = clash cc
+  started-placed : (r i b : ℕ) → started (F .base) s t c list bad .answer ≡ refusedAtWith b i r → (bad < length list) × (bad ≡ i) × (refusalOf bad ≡ r) × (refusalOf bad ≡ 17 → blamedTask (F .base) s (getD list bad 0) ≡ b)
+  started-placed r i b =
+      started-by
+      (λ (o : Outcome). o .answer ≡ refusedAtWith b i r → (bad < length list) × (bad ≡ i) × (refusalOf bad ≡ r) × (refusalOf bad ≡ 17 → blamedTask (F .base) s (getD list bad 0) ≡ b))
+      (F .base) s t c list bad (λ h z. let (x, y, told) = at-with-same z in (h, x, y, told)) (λ h z. absurd (elim (subst Refusal (sym z) (at-with-refuses b i r)) [ ]))
+
+  -- the guard refuses for no entry
+  effect-placed : (r i b : ℕ) → step F n s (step-async t c list) .answer ≡ refusedAtWith b i r
+      → (first (tableRows F n s ++ rows F s (step-async t c list)) ≡ 0) × (started (F .base) s t c list bad .answer ≡ refusedAtWith b i r)
+  effect-placed r i b e =
+      guarded-placed s _ (effect F s (step-async t c list)) (refusedAtWith b i r) (λ q. at-with-by (λ (a : Answer). Refused q ≡ a → ⊥) b i r (λ y k. clash cc) (λ y k. clash cc))
+      (sym (ap (λ (o : Outcome). o .answer) (step-guarded F n s (step-async t c list))) ∙ e)
 
   all-numbered : Numbered (tableRows F n s ++ rows F s (step-async t c list))
   all-numbered = numbered-append (tableRows-numbered F n s) (rows-numbered F s (step-async t c list))
 
-  pub placed-first : (r i : ℕ) → step F n s (step-async t c list) .answer ≡ RefusedAt r i
+  pub placed-first : (r i b : ℕ) → step F n s (step-async t c list) .answer ≡ refusedAtWith b i r
       → NoneGiven (tableRows F n s ++ rows F s (step-async t c list)) × BadPlace (F .base) (s .promises) t list r i
   unfolding entryRefusal
-  placed-first r i e =
-      let (z, e₁) = guarded-placed s _ (effect F s (step-async t c list)) r i (sym (ap (λ (o : Outcome). o .answer) (step-guarded F n s (step-async t c list))) ∙ e) in
-      let (h, a, b) = started-placed r i e₁ in (
+  placed-first r i b e =
+      let (z, e₁) = effect-placed r i b e in
+      let (h, k, a, told) = started-placed r i b e₁ in (
         first-none-given all-numbered z,
         record {
-          within = subst (λ (k : ℕ). k < length list) b h;
-          earlier = λ j k. first-none-given (entryRows-numbered (F .base) (s .promises) t list j) (firstBad-before refusalOf (length list) 0 j (omega arith) (omega arith));
+          within = subst (λ (j : ℕ). j < length list) k h;
+          earlier = λ j m. first-none-given (entryRows-numbered (F .base) (s .promises) t list j) (firstBad-before refusalOf (length list) 0 j (omega arith) (omega arith));
           given = first-given (entryRows (F .base) (s .promises) t list i) r
               (λ (y : r ≡ 0). firstBad-bad refusalOf (length list) 0 (omega arith) (a ∙ y))
-              (subst (λ (k : ℕ). refusalOf k ≡ r) b a);
+              (subst (λ (j : ℕ). refusalOf j ≡ r) k a);
         },
       )
 
-  pub placed-within : (r i : ℕ) → step F n s (step-async t c list) .answer ≡ RefusedAt r i → i ≤ length (s .promises)
-  placed-within r i e =
-      let (z, e₁) = guarded-placed s _ (effect F s (step-async t c list)) r i (sym (ap (λ (o : Outcome). o .answer) (step-guarded F n s (step-async t c list))) ∙ e) in
-      let (h, a, b) = started-placed r i e₁ in
-      subst (λ (k : ℕ). k ≤ length (s .promises)) b (firstBad-place (F .base) (s .promises) t list (length list))
+  -- 17 is told with the task that its entry is blamed on
+  pub placed-told : (i b : ℕ) → step F n s (step-async t c list) .answer ≡ refusedAtWith b i 17 → blamedTask (F .base) s (getD list i 0) ≡ b
+  placed-told i b e =
+      let (z, e₁) = effect-placed 17 i b e in
+      let (h, k, a, told) = started-placed 17 i b e₁ in
+      subst (λ (j : ℕ). blamedTask (F .base) s (getD list j 0) ≡ b) k (told a)
+
+  pub placed-within : (r i b : ℕ) → step F n s (step-async t c list) .answer ≡ refusedAtWith b i r → i ≤ length (s .promises)
+  placed-within r i b e =
+      let (z, e₁) = effect-placed r i b e in
+      let (h, k, a, told) = started-placed r i b e₁ in
+      subst (λ (j : ℕ). j ≤ length (s .promises)) k (firstBad-place (F .base) (s .promises) t list (length list))
 
   pub first-placed : (r i : ℕ) → NoneGiven (tableRows F n s ++ rows F s (step-async t c list)) → BadPlace (F .base) (s .promises) t list r i
-      → step F n s (step-async t c list) ≡ outcome (RefusedAt r i) s []
+      → step F n s (step-async t c list) ≡ outcome (refusedAtWith (blamedTask (F .base) s (getD list i 0)) i r) s []
   unfolding entryRefusal started
   first-placed r i none p =
       let a : refusalOf i ≡ r = given-first (p .given) in
       let m : r ≢ 0 = given-number (entryRows-numbered (F .base) (s .promises) t list i) (p .given) in
       let b : bad ≡ i = firstBad-is refusalOf (length list) 0 i (omega arith) (omega (arith, p .within)) (λ k x y. none-first (p .earlier k y)) (λ (z : refusalOf i ≡ 0). m (sym a ∙ z)) in
       step-guarded F n s (step-async t c list)
-      ∙ guarded-none _ s (effect F s (step-async t c list)) (none-first none)
+      ∙ guarded-none _ _ s (effect F s (step-async t c list)) (none-first none)
       ∙ rw (b, lt-ltb i (length list) (p .within), a)
 
 -- ---- a refusal changes nothing
@@ -262,59 +271,58 @@ module _ (F : Form) (n : ℕ) (s : Tables) (t c : ℕ) (list : List ℕ) where
 abbrev Unchanged : Tables → Outcome → Type 0
 Unchanged s o = (o .after ≡ s) × (o .words ≡ [])
 
-not-refusal : {A : Type 0} (a : Answer) → ((r : ℕ) → a ≡ Refused r → ⊥) → ((r i : ℕ) → a ≡ RefusedAt r i → ⊥) → Refusal a → A
-not-refusal a h k (plain r) = absurd (h r refl)
-not-refusal a h k (placed r i) = absurd (k r i refl)
-
 started-unchanged : (B : ℕ) (s : Tables) (t c : ℕ) (list : List ℕ) (i : ℕ) → Refusal (started B s t c list i .answer) → Unchanged s (started B s t c list i)
-unfolding started
-started-unchanged B s t c list i = go (ltb i (length list))
-  where
-    go : (b : Bool) → Refusal (cond b (outcome (RefusedAt (entryRefusal B (s .promises) t list i) i) s []) (outcome Started (withStarted s c list) []) .answer)
-        → Unchanged s (cond b (outcome (RefusedAt (entryRefusal B (s .promises) t list i) i) s []) (outcome Started (withStarted s c list) []))
-    go true r = (refl, refl)
-    go false r = not-refusal Started (λ q e. clash cc) (λ q j e. clash cc) r
+started-unchanged B s t c list i = started-by (λ (o : Outcome). Refusal (o .answer) → Unchanged s o) B s t c list i (λ h r. (refl, refl)) (λ h r. elim r [ ])
 
-got-not-refusal : {A : Type 0} (B : ℕ) (s : Tables) (t p w : ℕ) → Refusal (got B s t p w .answer) → A
-got-not-refusal {A} B s t p w r =
-    got-cases (λ (o : Outcome). Refusal (o .answer) → A) B s t p w (not-refusal Value (λ q e. clash cc) (λ q j e. clash cc)) (λ b. not-refusal (Blamed b) (λ q e. clash cc) (λ q j e. clash cc))
-    (λ k. not-refusal (Cycle k) (λ q e. clash cc) (λ q j e. clash cc)) (λ k. not-refusal (Waits k) (λ q e. clash cc) (λ q j e. clash cc)) r
+got-not-refusal : (B : ℕ) (s : Tables) (t p w : ℕ) → Refusal (got B s t p w .answer) → ⊥
+got-not-refusal B s t p w r = got-cases (λ (o : Outcome). Refusal (o .answer) → ⊥) B s t p w (λ r. elim r [ ]) (λ b r. elim r [ ]) (λ k r. elim r [ ]) (λ k r. elim r [ ]) r
 
 effect-unchanged : (F : Form) (s : Tables) (x : Step) → Refusal (effect F s x .answer) → Unchanged s (effect F s x)
-effect-unchanged F s (step-new t p) r = not-refusal Made (λ q e. clash cc) (λ q j e. clash cc) r
-effect-unchanged F s (step-set t p) r = not-refusal _ (λ q e. clash cc) (λ q j e. clash cc) r
-effect-unchanged F s (step-get t p) r = got-not-refusal (F .base) s t p (promiseAt s p) r
+effect-unchanged F s (step-new t p) r = elim r [ ]
+effect-unchanged F s (step-set t p) r = elim r [ ]
+effect-unchanged F s (step-get t p) r = absurd (got-not-refusal (F .base) s t p (promiseAt s p) r)
 effect-unchanged F s (step-async t c list) r = started-unchanged (F .base) s t c list _ r
-effect-unchanged F s (step-end t) r = not-refusal _ (λ q e. clash cc) (λ q j e. clash cc) r
+effect-unchanged F s (step-end t) r = elim r [ ]
 
-guarded-unchanged : (g : ℕ) (s : Tables) (o : Outcome) → (Refusal (o .answer) → Unchanged s o) → Refusal (guarded g s o .answer) → Unchanged s (guarded g s o)
-unfolding guarded
-guarded-unchanged g s o h = go (eqb g 0)
-  where
-    go : (b : Bool) → Refusal (cond b o (outcome (Refused g) s []) .answer) → Unchanged s (cond b o (outcome (Refused g) s []))
-    go true r = h r
-    go false r = (refl, refl)
+guarded-unchanged : (f : ℕ → Answer) (g : ℕ) (s : Tables) (o : Outcome) → (Refusal (o .answer) → Unchanged s o) → Refusal (guarded f g s o .answer) → Unchanged s (guarded f g s o)
+guarded-unchanged f g s o h = guarded-by (λ (x : Outcome). Refusal (x .answer) → Unchanged s x) f g s o (λ m r. (refl, refl)) (λ z. h)
 
 pub refusal-unchanged : (F : Form) (n : ℕ) (s : Tables) (x : Step) → Refusal (step F n s x .answer) → (step F n s x .after ≡ s) × (step F n s x .words ≡ [])
 refusal-unchanged F n s x =
-    guarded-unchanged (first (tableRows F n s)) s (raw F s x) (guarded-unchanged (first (rows F s x)) s (effect F s x) (effect-unchanged F s x))
+    guarded-unchanged _ (first (tableRows F n s)) s (raw F s x) (guarded-unchanged _ (first (rows F s x)) s (effect F s x) (effect-unchanged F s x))
+
+-- ---- every refusal is by a row, or for an entry
+
+effect-how : (F : Form) (s : Tables) (x : Step) → Refusal (effect F s x .answer) → HowRefused F s x (effect F s x .answer)
+effect-how F s (step-new t p) w = elim w [ ]
+effect-how F s (step-set t p) w = elim w [ ]
+effect-how F s (step-get t p) w = absurd (got-not-refusal (F .base) s t p (promiseAt s p) w)
+effect-how F s (step-async t c list) w =
+    started-by (λ (o : Outcome). Refusal (o .answer) → HowRefused F s (step-async t c list) (o .answer)) (F .base) s t c list _ (λ h v. for-entry t c list _ _ _ refl) (λ h v. elim v [ ]) w
+effect-how F s (step-end t) w = elim w [ ]
+
+pub how-refused : (F : Form) (n : ℕ) (s : Tables) (x : Step) → Refusal (step F n s x .answer) → HowRefused F s x (step F n s x .answer)
+how-refused F n s x =
+    subst (λ (o : Outcome). Refusal (o .answer) → HowRefused F s x (o .answer)) (sym (step-guarded F n s x))
+    (guarded-by (λ (o : Outcome). Refusal (o .answer) → HowRefused F s x (o .answer)) (stepRefused F s x) _ s (effect F s x) (λ m w. by-row _) (λ z. effect-how F s x))
 
 -- ---- the numbers and values of refusals
 
--- a step refused by r has the answer number r and no value
-pub first-number : (F : Form) (n : ℕ) (s : Tables) (x : Step) (r : ℕ) → FirstGiven r (tableRows F n s ++ rows F s x) → (numberOf (step F n s x .answer) ≡ r) × (valuesOf (step F n s x .answer) ≡ [])
-unfolding numberOf valuesOf
+-- a step refused by r has the answer number r and, but for 17, no value
+pub first-number : (F : Form) (n : ℕ) (s : Tables) (x : Step) (r : ℕ) → FirstGiven r (tableRows F n s ++ rows F s x)
+    → (numberOf (step F n s x .answer) ≡ r) × (r ≢ 17 → valuesOf (step F n s x .answer) ≡ [])
+unfolding valuesOf
 first-number F n s x r g =
     let e = ap (λ (o : Outcome). o .answer) (first-refused F n s x r g) in
-    (ap numberOf e, ap valuesOf e)
+    (ap numberOf e ∙ stepRefused-number F s x r, λ m. ap valuesOf (e ∙ stepRefused-plain F s x r m))
 
--- refused for an entry, it has the answer number r and the entry's place as its one value
+-- refused for an entry, it has the answer number r and, but for 17, the entry's place as its one value
 pub placed-number : (F : Form) (n : ℕ) (s : Tables) (t c : ℕ) (list : List ℕ) (r i : ℕ) → NoneGiven (tableRows F n s ++ rows F s (step-async t c list))
-    → BadPlace (F .base) (s .promises) t list r i → (numberOf (step F n s (step-async t c list) .answer) ≡ r) × (valuesOf (step F n s (step-async t c list) .answer) ≡ i ∷ [])
-unfolding numberOf valuesOf
+    → BadPlace (F .base) (s .promises) t list r i → (numberOf (step F n s (step-async t c list) .answer) ≡ r) × (r ≢ 17 → valuesOf (step F n s (step-async t c list) .answer) ≡ i ∷ [])
+unfolding valuesOf
 placed-number F n s t c list r i none p =
     let e = ap (λ (o : Outcome). o .answer) (first-placed F n s t c list r i none p) in
-    (ap numberOf e, ap valuesOf e)
+    (ap numberOf e ∙ at-with-number _ i r, λ m. ap valuesOf (e ∙ at-with-plain _ i r m))
 
 -- every other answer has a number from 100 on
 pub number-refuses : (a : Answer) → numberOf a < 100 → Refusal a
@@ -330,6 +338,8 @@ number-refuses Started h = absurd (omega arith)
 number-refuses (Ended m k) h = absurd (omega arith)
 number-refuses (Refused r) h = plain r
 number-refuses (RefusedAt r i) h = placed r i
+number-refuses (RefusedBlamed b) h = blamed b
+number-refuses (RefusedBlamedAt i b) h = blamed-at i b
 
 -- ---- a step is refused by a number of its own
 
@@ -344,23 +354,40 @@ rows-among (step-get t p) i = i
 rows-among (step-async t c list) i = in-left paperEntryRows i
 rows-among (step-end t) i = i
 
-effect-placed : (F : Form) (n : ℕ) (s : Tables) (x : Step) {r i : ℕ} → step F n s x .answer ≡ RefusedAt r i → effect F s x .answer ≡ RefusedAt r i
-effect-placed F n s x {r} {i} e = guarded-placed s _ (effect F s x) r i (sym (ap (λ (o : Outcome). o .answer) (step-guarded F n s x)) ∙ e) .1
+-- for an entry by one of its rows
+started-among : (F : Form) (s : Tables) (t c : ℕ) (list : List ℕ) → Refusal (effect F s (step-async t c list) .answer) → In (numberOf (effect F s (step-async t c list) .answer)) paperEntryRows
+unfolding entryRefusal
+started-among F s t c list = started-by (λ (o : Outcome). Refusal (o .answer) → In (numberOf (o .answer)) paperEntryRows) (F .base) s t c list bad entry (λ h w. elim w [ ])
+  where
+    refusalOf : ℕ → ℕ
+    refusalOf = entryRefusal (F .base) (s .promises) t list
 
--- only an async is refused for an entry
-entries-among : (F : Form) (n : ℕ) (s : Tables) (x : Step) (r i : ℕ) → step F n s x .answer ≡ RefusedAt r i → In r (paperNumbers x)
-entries-among F n s (step-new t p) r i e = let z = effect-placed F n s (step-new t p) e in clash cc
-entries-among F n s (step-set t p) r i e = let z = effect-placed F n s (step-set t p) e in clash cc
-entries-among F n s (step-get t p) r i e =
-    got-cases (λ (o : Outcome). o .answer ≡ RefusedAt r i → In r (paperNumbers (step-get t p))) (F .base) s t p (promiseAt s p)
-    (λ z. clash cc) (λ b z. clash cc) (λ k z. clash cc) (λ k z. clash cc) (effect-placed F n s (step-get t p) e)
-entries-among F n s (step-async t c list) r i e = in-right (paperRows (step-async t c list)) (given-in (placed-first F n s t c list r i e .1 .given))
-entries-among F n s (step-end t) r i e = let z = effect-placed F n s (step-end t) e in clash cc
+    bad : ℕ
+    bad = firstBad refusalOf (length list) 0
+
+    entry : bad < length list → Refusal (entryRefused (F .base) s t list bad) → In (numberOf (entryRefused (F .base) s t list bad)) paperEntryRows
+    entry h w =
+        subst (λ (q : ℕ). In q paperEntryRows) (sym (at-with-number _ bad (refusalOf bad)))
+        (given-in (first-given (entryRows (F .base) (s .promises) t list bad) (refusalOf bad) (firstBad-bad refusalOf (length list) 0 (omega arith)) refl))
+
+-- of the steps an async alone is refused by its effect
+effect-among : (F : Form) (s : Tables) (x : Step) → Refusal (effect F s x .answer) → In (numberOf (effect F s x .answer)) (paperNumbers x)
+effect-among F s (step-new t p) w = elim w [ ]
+effect-among F s (step-set t p) w = elim w [ ]
+effect-among F s (step-get t p) w = absurd (got-not-refusal (F .base) s t p (promiseAt s p) w)
+effect-among F s (step-async t c list) w = in-right (paperRows (step-async t c list)) (started-among F s t c list w)
+effect-among F s (step-end t) w = elim w [ ]
 
 pub own-number : (F : Form) (n : ℕ) (s : Tables) (x : Step) → Refusal (step F n s x .answer) → In (numberOf (step F n s x .answer)) (paperNumbers x)
-unfolding numberOf
-own-number F n s x w = go refl w
+own-number F n s x = subst Own (sym (step-guarded F n s x)) (guarded-by Own (stepRefused F s x) r s (effect F s x) by-row (λ z. effect-among F s x))
   where
-    go : {a : Answer} → step F n s x .answer ≡ a → Refusal a → In (numberOf a) (paperNumbers x)
-    go e (plain r) = rows-among x (subst (In r) (papers-order F n s x) (given-in (refused-first F n s x r e)))
-    go e (placed r i) = entries-among F n s x r i e
+    r : ℕ
+    r = first (tableRows F n s ++ rows F s x)
+
+    Own : Outcome → Type 0
+    Own o = Refusal (o .answer) → In (numberOf (o .answer)) (paperNumbers x)
+
+    by-row : r ≢ 0 → Own (outcome (stepRefused F s x r) s [])
+    by-row m w =
+        let i = rows-among x (subst (In r) (papers-order F n s x) (given-in (first-given (tableRows F n s ++ rows F s x) r m refl))) in
+        subst (λ (q : ℕ). In q (paperNumbers x)) (sym (stepRefused-number F s x r)) i

@@ -7,8 +7,8 @@ use mathlib.Core.Bool.{Bool, true, false, cond}
 use Prim.Native.Nat.{ℕ, _-_, _≤_, _<_}
 use native.Mathlib.Omega.{arith}
 use native.Mathlib.Decide.{ℕ-discrete}
-use lib.Dec.{eqb, leb, ltb}
-use borrow.Author.Tests.{eqb-true, eq-eqb, ltb-false}
+use lib.Dec.{eqb, leb}
+use borrow.Author.Tests.{eqb-true, eq-eqb}
 use lib.ListN.{length, getD, set}
 use lib.Seq.{getD-set-same, getD-set-other, lt-length-set}
 use Rattle.words.specs.Words.{Form, readyWord, unmadeWord, setWord, firstOwned, ownedBy}
@@ -16,20 +16,22 @@ use Rattle.words.specs.Lists.{In, top, pop}
 use Rattle.rules.specs.Tables.{Tables, taskAt, promiseAt}
 use Rattle.rules.specs.Refusals.{first, tableRows, entryRefusal, firstBad, newRows, getRows, ownRows, childRows}
 use Rattle.rules.specs.Steps.{Step, step-new, step-set, step-get, step-async, step-end, Outcome, outcome, given, withStarted, Found, astray, back, free, walk, followed, got, guarded, started, rows, effect, raw, step}
-use Rattle.rules.specs.Demands.{Refusal, plain, placed}
+use Rattle.rules.specs.Demands.{Refusal, plain}
 use Rattle.rules.specs.Published.{NewRule, SetRule, SpawnRule, GetRule, EndRule, Asserted}
 use Rattle.rules.specs.declared.Answer.{Answer}
-use Rattle.rules.specs.declared.Answer.the-variants.{Made, Set, Value, Blamed, Started, Ended, Refused, RefusedAt}
+use Rattle.rules.specs.declared.Answer.the-variants.{Made, Set, Value, Blamed, Started, Ended}
+use Rattle.rules.proofs.GuardLaws.{guarded-by, started-by}
 use Rattle.rules.proofs.Accepted.{entries-good}
+use Rattle.rules.proofs.AnswerLaws.{at-with-refuses, stepRefused-refuses}
 use Rattle.rules.proofs.Named.{accepted}
 use Rattle.words.proofs.BoolLaws.{clash}
-use Rattle.rules.proofs.Order.{got-cases, guarded-none, guarded-some}
+use Rattle.rules.proofs.Order.{got-cases}
 use Rattle.rules.proofs.RefusalLaws.{actorRows-none, childRows-none, newRows-none, getRows-none, ownRows-none}
 use Rattle.rules.proofs.StepMoves.{read-given, blame-miss}
 
 pub new-rule : (F : Form) (n : ℕ) (s : Tables) (t p : ℕ) → step F n s (step-new t p) .answer ≡ Made → NewRule s (step F n s (step-new t p) .after) t p
 new-rule F n s t p e =
-    let (z, o) = accepted F n s (step-new t p) Made (λ q (y : Refused q ≡ Made). clash cc) e in
+    let (z, o) = accepted F n s (step-new t p) Made (λ r. elim r [ ]) e in
     let (act, z₁) = actorRows-none (s .tasks) t (newRows (s .promises) p) z in
     let (h, w) = newRows-none (s .promises) p z₁ in
     subst (λ (x : Outcome). NewRule s (x .after) t p) (sym o)
@@ -37,11 +39,11 @@ new-rule F n s t p e =
 
 -- and no task's word changes
 pub new-tasks : (F : Form) (n : ℕ) (s : Tables) (t p : ℕ) → step F n s (step-new t p) .answer ≡ Made → step F n s (step-new t p) .after .tasks ≡ s .tasks
-new-tasks F n s t p e = let (z, o) = accepted F n s (step-new t p) Made (λ q (y : Refused q ≡ Made). clash cc) e in ap (λ (x : Outcome). x .after .tasks) o
+new-tasks F n s t p e = let (z, o) = accepted F n s (step-new t p) Made (λ r. elim r [ ]) e in ap (λ (x : Outcome). x .after .tasks) o
 
 pub set-rule : (F : Form) (n : ℕ) (s : Tables) (t p m : ℕ) → step F n s (step-set t p) .answer ≡ Set m → SetRule s (step F n s (step-set t p) .after) t p
 set-rule F n s t p m e =
-    let (z, o) = accepted F n s (step-set t p) (Set m) (λ q (y : Refused q ≡ Set m). clash cc) e in
+    let (z, o) = accepted F n s (step-set t p) (Set m) (λ r. elim r [ ]) e in
     let (act, z₁) = actorRows-none (s .tasks) t (ownRows (F .base) (s .promises) t p) z in
     let (h, w, z₂) = ownRows-none (F .base) (s .promises) t p [] z₁ in
     subst (λ (x : Outcome). SetRule s (x .after) t p) (sym o)
@@ -86,18 +88,13 @@ module _ (F : Form) (n : ℕ) (s : Tables) (t c : ℕ) (list : List ℕ) where
   -- async starts only where no place is bad
   started-good : started (F .base) s t c list bad .answer ≡ Started
       → (length list ≤ bad) × (started (F .base) s t c list bad .after ≡ withStarted s c list)
-  unfolding started
-  started-good e = go (ltb bad (length list)) refl e
-    where
-      go : (b : Bool) → ltb bad (length list) ≡ b
-          → cond b (outcome (RefusedAt (entryRefusal (F .base) (s .promises) t list bad) bad) s []) (outcome Started (withStarted s c list) []) .answer ≡ Started
-          → (length list ≤ bad) × (cond b (outcome (RefusedAt (entryRefusal (F .base) (s .promises) t list bad) bad) s []) (outcome Started (withStarted s c list) []) .after ≡ withStarted s c list)
-      go true h z = clash cc
-      go false h z = (ltb-false bad (length list) h, refl)
+  started-good =
+      started-by (λ (o : Outcome). o .answer ≡ Started → (length list ≤ bad) × (o .after ≡ withStarted s c list)) (F .base) s t c list bad
+      (λ h z. absurd (elim (subst Refusal z (at-with-refuses _ bad _)) [ ])) (λ h z. (h, refl))
 
   pub spawn-rule : step F n s (step-async t c list) .answer ≡ Started → SpawnRule s (step F n s (step-async t c list) .after) t c list
   spawn-rule e =
-      let (z, o) = accepted F n s (step-async t c list) Started (λ q (y : Refused q ≡ Started). clash cc) e in
+      let (z, o) = accepted F n s (step-async t c list) Started (λ r. elim r [ ]) e in
       let (h, a) = started-good (sym (ap (λ (x : Outcome). x .answer) o) ∙ e) in
       let good = entries-good (F .base) s t list h in
       subst (λ (x : Tables). SpawnRule s x t c list) (sym (ap (λ (x : Outcome). x .after) o ∙ a))
@@ -111,7 +108,7 @@ module _ (F : Form) (n : ℕ) (s : Tables) (t c : ℕ) (list : List ℕ) where
   pub spawn-tasks : step F n s (step-async t c list) .answer ≡ Started
       → (taskAt (step F n s (step-async t c list) .after) c ≡ readyWord) × ((v : ℕ) → v ≢ c → taskAt (step F n s (step-async t c list) .after) v ≡ taskAt s v)
   spawn-tasks e =
-      let (z, o) = accepted F n s (step-async t c list) Started (λ q (y : Refused q ≡ Started). clash cc) e in
+      let (z, o) = accepted F n s (step-async t c list) Started (λ r. elim r [ ]) e in
       let (h, a) = started-good (sym (ap (λ (x : Outcome). x .answer) o) ∙ e) in
       let (act, z₁) = actorRows-none (s .tasks) t (childRows (s .tasks) c) z in
       subst (λ (x : Tables). (taskAt x c ≡ readyWord) × ((v : ℕ) → v ≢ c → taskAt x v ≡ taskAt s v)) (sym (ap (λ (x : Outcome). x .after) o ∙ a))
@@ -139,7 +136,7 @@ set-value B s t p w e = rw (eq-eqb w setWord e)
 pub get-rule : (F : Form) (n : ℕ) (s : Tables) (t p : ℕ) (a : Answer) → (Refusal a → ⊥) → step F n s (step-get t p) .answer ≡ a
     → GetRule s (step F n s (step-get t p) .after) p a
 get-rule F n s t p a h e =
-    let (z, o) = accepted F n s (step-get t p) a (λ q y. h (subst Refusal y (plain q))) e in
+    let (z, o) = accepted F n s (step-get t p) a h e in
     let (act, z₁) = actorRows-none (s .tasks) t (getRows (s .promises) p) z in
     let (b, m) = getRows-none (s .promises) p z₁ in
     let e₁ : got (F .base) s t p (promiseAt s p) .answer ≡ a = sym (ap (λ (x : Outcome). x .answer) o) ∙ e in
@@ -153,7 +150,7 @@ get-rule F n s t p a h e =
 
 pub end-rule : (F : Form) (n : ℕ) (s : Tables) (t m k : ℕ) → step F n s (step-end t) .answer ≡ Ended m k → EndRule s (step F n s (step-end t) .after) t
 end-rule F n s t m k e =
-    let (z, o) = accepted F n s (step-end t) (Ended m k) (λ q (y : Refused q ≡ Ended m k). clash cc) e in
+    let (z, o) = accepted F n s (step-end t) (Ended m k) (λ r. elim r [ ]) e in
     subst (λ (x : Outcome). EndRule s (x .after) t) (sym o) (record { same = λ none q. blame-miss (F .base) s t q (none q) })
 
 -- ---- what the rules assert
@@ -161,16 +158,8 @@ end-rule F n s t m k e =
 -- async is refused at a place, or no place is bad
 started-asserts : (B : ℕ) (s : Tables) (t c : ℕ) (list : List ℕ)
     → Refusal (started B s t c list (firstBad (entryRefusal B (s .promises) t list) (length list) 0) .answer) ⊎ Asserted s (step-async t c list)
-unfolding started
-started-asserts B s t c list = go (ltb place (length list)) refl
-  where
-    place : ℕ
-    place = firstBad (entryRefusal B (s .promises) t list) (length list) 0
-
-    go : (b : Bool) → ltb place (length list) ≡ b
-        → Refusal (cond b (outcome (RefusedAt (entryRefusal B (s .promises) t list place) place) s []) (outcome Started (withStarted s c list) []) .answer) ⊎ Asserted s (step-async t c list)
-    go true h = inl (placed (entryRefusal B (s .promises) t list place) place)
-    go false h = inr (λ q i. entries-good B s t list (ltb-false place (length list) h) q i .1)
+started-asserts B s t c list =
+    started-by (λ (o : Outcome). Refusal (o .answer) ⊎ Asserted s (step-async t c list)) B s t c list _ (λ h. inl (at-with-refuses _ _ _)) (λ h. inr (λ q i. entries-good B s t list h q i .1))
 
 -- a step by whose rows nothing is refused meets the asserts, or is refused for an entry of its list
 asserts : (F : Form) (s : Tables) (x : Step) → first (rows F s x) ≡ 0 → Refusal (effect F s x .answer) ⊎ Asserted s x
@@ -191,14 +180,10 @@ asserts F s (step-end t) z = inr tt
 
 -- a step is refused, or A holds, if A holds wherever no row applies and no entry is refused
 pub refused-or : (F : Form) (n : ℕ) (s : Tables) (x : Step) (A : Type 0) → (first (rows F s x) ≡ 0 → Refusal (effect F s x .answer) ⊎ A) → Refusal (step F n s x .answer) ⊎ A
-refused-or F n s x A h = by (first (tableRows F n s)) (raw F s x) (λ z. by (first (rows F s x)) (effect F s x) h)
+refused-or F n s x A h = by _ plain (first (tableRows F n s)) (raw F s x) (λ z. by _ (stepRefused-refuses F s x) (first (rows F s x)) (effect F s x) h)
   where
-    by : (r : ℕ) (o : Outcome) → (r ≡ 0 → Refusal (o .answer) ⊎ A) → Refusal (guarded r s o .answer) ⊎ A
-    by r o k = go (ℕ-discrete r 0)
-      where
-        go : Dec (r ≡ 0) → Refusal (guarded r s o .answer) ⊎ A
-        go (yes z) = subst (λ (y : Outcome). Refusal (y .answer) ⊎ A) (sym (guarded-none r s o z)) (k z)
-        go (no m) = inl (subst (λ (y : Outcome). Refusal (y .answer)) (sym (guarded-some r s o m)) (plain r))
+    by : (f : ℕ → Answer) → ((q : ℕ) → Refusal (f q)) → (r : ℕ) (o : Outcome) → (r ≡ 0 → Refusal (o .answer) ⊎ A) → Refusal (guarded f r s o .answer) ⊎ A
+    by f refuses r o k = guarded-by (λ (x : Outcome). Refusal (x .answer) ⊎ A) f r s o (λ m. inl (refuses r)) k
 
 pub refused-unless : {R A : Type 0} → R ⊎ A → (A → ⊥) → R
 refused-unless (inl r) h = r

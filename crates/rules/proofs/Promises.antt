@@ -6,23 +6,24 @@ use mathlib.Core.List.{List, [], _∷_, _++_, map}
 use mathlib.Core.Bool.{true}
 use Prim.Native.Nat.{ℕ, _+_, _*_, _≤_, _<_}
 use lib.Dec.{lit≤}
-use lib.ListN.{length, replicate}
-use Rattle.words.specs.Words.{Form, small, unusedWord, readyWord, waitsOn, unmadeWord, setWord, firstOwned, ownedBy, blamedOn}
+use lib.ListN.{length, getD, replicate}
+use Rattle.words.specs.Words.{Form, small, unusedWord, readyWord, endedWord, waitsOn, unmadeWord, setWord, firstOwned, ownedBy, blamedOn}
 use Rattle.words.specs.Lists.{In}
-use Rattle.rules.specs.Tables.{Tables, tables, taskAt, promiseAt, liveTasks, closed, fresh}
+use Rattle.rules.specs.Tables.{Tables, tables, taskAt, promiseAt, liveTasks, closed, blamedTask, fresh}
 use Rattle.rules.specs.Chains.{Chain, waits}
 use Rattle.rules.specs.Sound.{Live, Sound, soundTest}
-use Rattle.rules.specs.Answers.{numberOf, valuesOf, wordCount}
+use Rattle.rules.specs.Answers.{numberOf, valuesOf, wordCount, refusedAtWith}
 use Rattle.rules.specs.Refusals.{tableRows, entryRows}
-use Rattle.rules.specs.Steps.{Step, step-new, step-set, step-get, step-async, step-end, Outcome, outcome, withWait, pairs, rows, step, run}
-use Rattle.rules.specs.ProvedSet.{provedSet, taken, expected}
-use Rattle.rules.specs.Demands.{Apart, Good, numbers, paperRows, paperEntryRows, paperNumbers, FirstGiven, NoneGiven, BadPlace, Refusal, OwnersFrom, Alarm, Wait, Named, Woken, Demand3}
+use Rattle.rules.specs.Steps.{Step, step-new, step-set, step-get, step-async, step-end, Outcome, outcome, withWait, pairs, rows, stepRefused, step, run}
+use Rattle.rules.specs.ProvedSet.{provedSet, blamedSet, taken, expected}
+use Rattle.rules.specs.Demands.{Apart, Good, numbers, paperRows, paperEntryRows, paperNumbers, FirstGiven, NoneGiven, BadPlace, Refusal, HowRefused, OwnersFrom, Alarm, Wait, Named, Woken, Demand3}
 use Rattle.rules.specs.Published.{NewRule, SetRule, SpawnRule, GetRule, EndRule, Asserted}
 use Rattle.rules.specs.Contracts.{Gives}
 use Rattle.rules.specs.Sessions.{Freshens}
 use Rattle.rules.specs.declared.Answer.{Answer}
-use Rattle.rules.specs.declared.Answer.the-variants.{Made, Set, Value, Blamed, Waits, Cycle, Started, Ended, Refused, RefusedAt}
+use Rattle.rules.specs.declared.Answer.the-variants.{Made, Set, Value, Blamed, Waits, Cycle, Started, Ended, Refused, RefusedAt, RefusedBlamed, RefusedBlamedAt}
 use Rattle.rules.proofs.Alarms as alarms
+use Rattle.rules.proofs.Blame as blame
 use Rattle.rules.proofs.Blocked as blocked
 use Rattle.rules.proofs.Cases as cases
 use Rattle.rules.proofs.Counts as counts
@@ -38,7 +39,7 @@ use Rattle.rules.proofs.Waiting as waiting
 -- ---- the proved set
 
 pub the-proved-set : map taken provedSet ≡ map expected provedSet
-the-proved-set = cases.proved-set
+the-proved-set = cases.proved-sets .0
 
 pub small-apart : Apart small
 small-apart = lit≤ tt
@@ -65,28 +66,33 @@ module _ (F : Form) (n : ℕ) (s : Tables) where
   pub entries-in-the-papers-order : (t : ℕ) (list : List ℕ) (i : ℕ) → numbers (entryRows (F .base) (s .promises) t list i) ≡ paperEntryRows
   entries-in-the-papers-order t list i = refl
 
-  -- refused by r exactly when r is the first of the rows that applies
-  pub refused-by-the-first : (x : Step) (r : ℕ) → step F n s x .answer ≡ Refused r → FirstGiven r (tableRows F n s ++ rows F s x)
+  -- refused by r exactly when r is the first of the rows that applies; `stepRefused` is the answer that returns r, and for an entry `refusedAtWith` is
+  pub refused-by-the-first : (x : Step) (r : ℕ) → step F n s x .answer ≡ stepRefused F s x r → FirstGiven r (tableRows F n s ++ rows F s x)
   refused-by-the-first = order.refused-first F n s
 
-  pub the-first-refuses : (x : Step) (r : ℕ) → FirstGiven r (tableRows F n s ++ rows F s x) → step F n s x ≡ outcome (Refused r) s []
+  pub the-first-refuses : (x : Step) (r : ℕ) → FirstGiven r (tableRows F n s ++ rows F s x) → step F n s x ≡ outcome (stepRefused F s x r) s []
   the-first-refuses = order.first-refused F n s
 
   -- and a list entry exactly when it is the first bad one, by the first of its rows that applies, with its place
-  pub entry-refused-by-the-first : (t c : ℕ) (list : List ℕ) (r i : ℕ) → step F n s (step-async t c list) .answer ≡ RefusedAt r i
+  pub entry-refused-by-the-first : (t c : ℕ) (list : List ℕ) (r i b : ℕ) → step F n s (step-async t c list) .answer ≡ refusedAtWith b i r
       → NoneGiven (tableRows F n s ++ rows F s (step-async t c list)) × BadPlace (F .base) (s .promises) t list r i
   entry-refused-by-the-first = order.placed-first F n s
 
   pub the-first-entry-refuses : (t c : ℕ) (list : List ℕ) (r i : ℕ) → NoneGiven (tableRows F n s ++ rows F s (step-async t c list)) → BadPlace (F .base) (s .promises) t list r i
-      → step F n s (step-async t c list) ≡ outcome (RefusedAt r i) s []
+      → step F n s (step-async t c list) ≡ outcome (refusedAtWith (blamedTask (F .base) s (getD list i 0)) i r) s []
   the-first-entry-refuses = order.first-placed F n s
 
-  -- the number of the answer (specs/Answers.antt) is then r, and the place its one value; an answer that is no refusal has a number from 100 on
-  pub refused-by-number : (x : Step) (r : ℕ) → FirstGiven r (tableRows F n s ++ rows F s x) → (numberOf (step F n s x .answer) ≡ r) × (valuesOf (step F n s x .answer) ≡ [])
+  -- and there is no other refusal
+  pub by-a-row-or-for-an-entry : (x : Step) → Refusal (step F n s x .answer) → HowRefused F s x (step F n s x .answer)
+  by-a-row-or-for-an-entry = order.how-refused F n s
+
+  -- the number of the answer (specs/Answers.antt) is then r; it has no value, and for an entry its place, but for 17 (request 3, below). An answer that is no refusal has a
+  -- number from 100 on
+  pub refused-by-number : (x : Step) (r : ℕ) → FirstGiven r (tableRows F n s ++ rows F s x) → (numberOf (step F n s x .answer) ≡ r) × (r ≢ 17 → valuesOf (step F n s x .answer) ≡ [])
   refused-by-number = order.first-number F n s
 
   pub entry-refused-by-number : (t c : ℕ) (list : List ℕ) (r i : ℕ) → NoneGiven (tableRows F n s ++ rows F s (step-async t c list)) → BadPlace (F .base) (s .promises) t list r i
-      → (numberOf (step F n s (step-async t c list) .answer) ≡ r) × (valuesOf (step F n s (step-async t c list) .answer) ≡ i ∷ [])
+      → (numberOf (step F n s (step-async t c list) .answer) ≡ r) × (r ≢ 17 → valuesOf (step F n s (step-async t c list) .answer) ≡ i ∷ [])
   entry-refused-by-number = order.placed-number F n s
 
   pub a-number-below-100-refuses : (x : Step) → numberOf (step F n s x .answer) < 100 → Refusal (step F n s x .answer)
@@ -97,7 +103,7 @@ module _ (F : Form) (n : ℕ) (s : Tables) where
   refused-by-a-number-of-its-own = order.own-number F n s
 
   -- a place is at most P, however long the list is
-  pub a-place-is-at-most-P : (t c : ℕ) (list : List ℕ) (r i : ℕ) → step F n s (step-async t c list) .answer ≡ RefusedAt r i → i ≤ length (s .promises)
+  pub a-place-is-at-most-P : (t c : ℕ) (list : List ℕ) (r i b : ℕ) → step F n s (step-async t c list) .answer ≡ refusedAtWith b i r → i ≤ length (s .promises)
   a-place-is-at-most-P = order.placed-within F n s
 
   -- "a refusal changes no table and no report"
@@ -241,3 +247,49 @@ demand-3-of F apart n s g = record {
 -- "From fresh tables, after any steps": all four sentences of specs/Demands.antt, `Demand3`
 pub demand-3 : (F : Form) → Apart F → (n T P : ℕ) → 1 ≤ T → T ≤ F .mostTasks → P ≤ F .mostPromises → P + 2 * T ≤ n → (xs : List Step) → Demand3 F n (run F n (fresh T P) xs)
 demand-3 F apart n T P some most most′ room xs = demand-3-of F apart n (run F n (fresh T P) xs) (kept.good-run F apart n (fresh T P) xs (kept.fresh-good T P some F apart n most most′ room))
+
+-- ---- REQUEST 3, "Blamed is not set"
+
+pub the-blamed-set : map taken blamedSet ≡ map expected blamedSet
+the-blamed-set = cases.proved-sets .1
+
+module _ (F : Form) (apart : Apart F) (n : ℕ) (s : Tables) where
+  -- "A set .. on a blamed promise must tell the blamed task": exactly then, and nothing changes
+  pub set-tells-the-blamed : Good F n s → (t p b : ℕ) → taskAt s t ≡ readyWord → promiseAt s p ≡ blamedOn (F .base) b → step F n s (step-set t p) ≡ outcome (RefusedBlamed b) s []
+  set-tells-the-blamed g t p b = blame.set-blamed F apart n s t p g b
+
+  pub set-tells-only-the-blamed : (t p b : ℕ) → step F n s (step-set t p) .answer ≡ RefusedBlamed b → (taskAt s t ≡ readyWord) × (promiseAt s p ≡ blamedOn (F .base) b)
+  set-tells-only-the-blamed = blame.blamed-set F apart n s
+
+  -- "9 is given for a set promise alone"
+  pub nine-if-set : Good F n s → (t p : ℕ) → taskAt s t ≡ readyWord → promiseAt s p ≡ setWord → step F n s (step-set t p) ≡ outcome (Refused 9) s []
+  nine-if-set g t p = blame.set-nine F apart n s t p g
+
+  pub nine-only-if-set : (t p : ℕ) → step F n s (step-set t p) .answer ≡ Refused 9 → (taskAt s t ≡ readyWord) × (promiseAt s p ≡ setWord)
+  nine-only-if-set = blame.nine-set F apart n s
+
+  -- "for async the place before it": of the first entry that something is wrong with
+  pub async-tells-the-blamed : (t c : ℕ) (list : List ℕ) (i b : ℕ) → NoneGiven (tableRows F n s ++ rows F s (step-async t c list)) → i < length list
+      → ((j : ℕ) → j < i → NoneGiven (entryRows (F .base) (s .promises) t list j)) → promiseAt s (getD list i 0) ≡ blamedOn (F .base) b
+      → step F n s (step-async t c list) ≡ outcome (RefusedBlamedAt i b) s []
+  async-tells-the-blamed t c list i b none h good = blame.async-blamed F apart n s t c list i b (none, h, good)
+
+  pub async-tells-only-the-blamed : (t c : ℕ) (list : List ℕ) (i b : ℕ) → step F n s (step-async t c list) .answer ≡ RefusedBlamedAt i b
+      → BadPlace (F .base) (s .promises) t list 17 i × (promiseAt s (getD list i 0) ≡ blamedOn (F .base) b)
+  async-tells-only-the-blamed = blame.blamed-async F apart n s
+
+  pub async-nine-if-set : (t c : ℕ) (list : List ℕ) (i : ℕ) → NoneGiven (tableRows F n s ++ rows F s (step-async t c list)) → i < length list
+      → ((j : ℕ) → j < i → NoneGiven (entryRows (F .base) (s .promises) t list j)) → promiseAt s (getD list i 0) ≡ setWord
+      → step F n s (step-async t c list) ≡ outcome (RefusedAt 9 i) s []
+  async-nine-if-set t c list i none h good = blame.async-nine F apart n s t c list i (none, h, good)
+
+  pub async-nine-only-if-set : (t c : ℕ) (list : List ℕ) (i : ℕ) → step F n s (step-async t c list) .answer ≡ RefusedAt 9 i → promiseAt s (getD list i 0) ≡ setWord
+  async-nine-only-if-set = blame.nine-async F apart n s
+
+  -- who is told has ended
+  pub who-is-blamed-has-ended : Good F n s → (p b : ℕ) → promiseAt s p ≡ blamedOn (F .base) b → (b < length (s .tasks)) × (taskAt s b ≡ endedWord)
+  who-is-blamed-has-ended = blame.blamed-ended F apart n s
+
+  -- and after any steps whoever sets or lists the promise is told the same task
+  pub the-blame-stays : Good F n s → (xs : List Step) (p b : ℕ) → promiseAt s p ≡ blamedOn (F .base) b → promiseAt (run F n s xs) p ≡ blamedOn (F .base) b
+  the-blame-stays g xs = blame.blame-stays F apart n s xs g

@@ -7,24 +7,31 @@ use mathlib.Core.Bool.{Bool, true, false, cond, not}
 use native.Mathlib.Omega.{arith}
 use native.Mathlib.Decide.{ℕ-discrete}
 use native.Mathlib.Numerals.{add-one}
-use lib.Dec.{eqb, ltb}
-use borrow.Author.Tests.{eqb-true, eqb-false, ltb-true, ne-eqb}
+use lib.Dec.{eqb, leb, ltb}
+use borrow.Author.Tests.{eqb-true, eqb-false, ltb-true, leb-true, eq-eqb, ne-eqb, lt-ltb, le-leb}
 use lib.ListN.{length, getD}
-use Rattle.words.specs.Words.{readyWord, unusedWord, unmadeWord, ownedBy}
+use Rattle.words.specs.Words.{readyWord, unusedWord, unmadeWord, setWord, ownedBy}
 use Rattle.words.specs.Lists.{allBelow}
 use Rattle.words.proofs.BoolLaws.{or-split, true-is-not-false}
-use Rattle.rules.specs.Tables.{live, waiting, closed}
+use Rattle.words.proofs.ListLaws.{within-table}
+use Rattle.rules.specs.Tables.{live, waiting}
 use Rattle.rules.specs.Refusals.{Row, first, earlier, actorRows, childRows, newRows, getRows, ownRows, entryRefusal, differs, firstBad}
 
 pub not-is-false : (b : Bool) → not b ≡ false → b ≡ true
 not-is-false true e = refl
 not-is-false false e = sym e
 
--- a row that does not apply, and what follows it
-pub first-none : (r : ℕ) (b : Bool) (rows : List Row) → r ≢ 0 → first ((r, b) ∷ rows) ≡ 0 → (b ≡ false) × (first rows ≡ 0)
+-- a row that is not the first that applies, and what follows it
+pub first-past : {q : ℕ} (r : ℕ) (b : Bool) (rows : List Row) → r ≢ q → first ((r, b) ∷ rows) ≡ q → (b ≡ false) × (first rows ≡ q)
 unfolding first
-first-none r true rows n e = absurd (n e)
-first-none r false rows n e = (refl, e)
+first-past r true rows n e = absurd (n e)
+first-past r false rows n e = (refl, e)
+
+-- a row that is the first that applies, where no later one has its number
+pub first-hit : (r : ℕ) (b : Bool) (rows : List Row) → first rows ≢ r → first ((r, b) ∷ rows) ≡ r → b ≡ true
+unfolding first
+first-hit r true rows n e = refl
+first-hit r false rows n e = absurd (n e)
 
 -- no row has the number 0
 pub data Numbered : List Row → Type 0 where
@@ -37,6 +44,14 @@ first-append ys no-row = refl
 first-append ys (row {r = r} {b = true} n rest) = rw (ne-eqb r 0 n)
 first-append ys (row {b = false} n rest) = first-append ys rest
 
+-- ---- refusals 1 and 2, by two tests
+
+pub tests-past : {q : ℕ} (a b : Bool) (rows : List Row) → 1 ≢ q → 2 ≢ q → first ((1, not a) ∷ (2, not b) ∷ rows) ≡ q → (a ≡ true) × (b ≡ true) × (first rows ≡ q)
+tests-past a b rows m n e =
+    let (x, e₁) = first-past 1 (not a) _ m e in
+    let (y, e₂) = first-past 2 (not b) _ n e₁ in
+    (not-is-false a x, not-is-false b y, e₂)
+
 -- ---- the acting task
 
 pub record Acts (ts : List ℕ) (t : ℕ) : Type 0 where
@@ -44,50 +59,101 @@ pub record Acts (ts : List ℕ) (t : ℕ) : Type 0 where
   pub ready : getD ts t 0 ≡ readyWord
 
 pub actorRows-numbered : (ts : List ℕ) (t : ℕ) → Numbered (actorRows ts t)
-actorRows-numbered ts t = row (λ (e : _≡_ {A = ℕ} 3 0). omega arith) (row (λ (e : _≡_ {A = ℕ} 4 0). omega arith) (row (λ (e : _≡_ {A = ℕ} 5 0). omega arith) no-row))
+actorRows-numbered ts t = row (eqb-false 3 0 refl) (row (eqb-false 4 0 refl) (row (eqb-false 5 0 refl) no-row))
 
 live-not-waiting : (w : ℕ) → live w ≡ true → waiting w ≡ false → w ≡ readyWord
 live-not-waiting w l n = ⊎-elim (λ (e : eqb w readyWord ≡ true). eqb-true w readyWord e) (λ (e : waiting w ≡ true). absurd (true-is-not-false (sym e ∙ n))) (or-split (eqb w readyWord) (waiting w) l)
 
-pub actorRows-none : (ts : List ℕ) (t : ℕ) (rows : List Row) → first (actorRows ts t ++ rows) ≡ 0 → Acts ts t × (first rows ≡ 0)
-actorRows-none ts t rows e =
-    let (a, e₁) = first-none 3 (not (ltb t (length ts))) _ (λ (z : _≡_ {A = ℕ} 3 0). omega arith) e in
-    let (b, e₂) = first-none 4 (not (live (getD ts t 0))) _ (λ (z : _≡_ {A = ℕ} 4 0). omega arith) e₁ in
-    let (c, e₃) = first-none 5 (waiting (getD ts t 0)) _ (λ (z : _≡_ {A = ℕ} 5 0). omega arith) e₂ in
+pub actorRows-past : {q : ℕ} (ts : List ℕ) (t : ℕ) (rows : List Row) → 3 ≢ q → 4 ≢ q → 5 ≢ q → first (actorRows ts t ++ rows) ≡ q → Acts ts t × (first rows ≡ q)
+actorRows-past ts t rows three four five e =
+    let (a, e₁) = first-past 3 (not (ltb t (length ts))) _ three e in
+    let (b, e₂) = first-past 4 (not (live (getD ts t 0))) _ four e₁ in
+    let (c, e₃) = first-past 5 (waiting (getD ts t 0)) _ five e₂ in
     (record { below = ltb-true t (length ts) (not-is-false (ltb t (length ts)) a); ready = live-not-waiting (getD ts t 0) (not-is-false (live (getD ts t 0)) b) c }, e₃)
+
+pub actorRows-none : (ts : List ℕ) (t : ℕ) (rows : List Row) → first (actorRows ts t ++ rows) ≡ 0 → Acts ts t × (first rows ≡ 0)
+actorRows-none ts t rows e = actorRows-past ts t rows (eqb-false 3 0 refl) (eqb-false 4 0 refl) (eqb-false 5 0 refl) e
 
 -- ---- the other numbers
 
 pub childRows-none : (ts : List ℕ) (c : ℕ) → first (childRows ts c) ≡ 0 → (c < length ts) × (getD ts c 0 ≡ unusedWord)
 childRows-none ts c e =
-    let (a, e₁) = first-none 11 (not (ltb c (length ts))) _ (λ (z : _≡_ {A = ℕ} 11 0). omega arith) e in
-    let (b, e₂) = first-none 12 (not (eqb (getD ts c 0) unusedWord)) _ (λ (z : _≡_ {A = ℕ} 12 0). omega arith) e₁ in
+    let (a, e₁) = first-past 11 (not (ltb c (length ts))) _ (eqb-false 11 0 refl) e in
+    let (b, e₂) = first-past 12 (not (eqb (getD ts c 0) unusedWord)) _ (eqb-false 12 0 refl) e₁ in
     (ltb-true c (length ts) (not-is-false (ltb c (length ts)) a), eqb-true (getD ts c 0) unusedWord (not-is-false (eqb (getD ts c 0) unusedWord) b))
 
 pub newRows-none : (ps : List ℕ) (p : ℕ) → first (newRows ps p) ≡ 0 → (p < length ps) × (getD ps p 0 ≡ unmadeWord)
 newRows-none ps p e =
-    let (a, e₁) = first-none 6 (not (ltb p (length ps))) _ (λ (z : _≡_ {A = ℕ} 6 0). omega arith) e in
-    let (b, e₂) = first-none 7 (not (eqb (getD ps p 0) unmadeWord)) _ (λ (z : _≡_ {A = ℕ} 7 0). omega arith) e₁ in
+    let (a, e₁) = first-past 6 (not (ltb p (length ps))) _ (eqb-false 6 0 refl) e in
+    let (b, e₂) = first-past 7 (not (eqb (getD ps p 0) unmadeWord)) _ (eqb-false 7 0 refl) e₁ in
     (ltb-true p (length ps) (not-is-false (ltb p (length ps)) a), eqb-true (getD ps p 0) unmadeWord (not-is-false (eqb (getD ps p 0) unmadeWord) b))
 
 pub getRows-none : (ps : List ℕ) (p : ℕ) → first (getRows ps p) ≡ 0 → (p < length ps) × (getD ps p 0 ≢ unmadeWord)
 getRows-none ps p e =
-    let (a, e₁) = first-none 6 (not (ltb p (length ps))) _ (λ (z : _≡_ {A = ℕ} 6 0). omega arith) e in
-    let (b, e₂) = first-none 8 (eqb (getD ps p 0) unmadeWord) _ (λ (z : _≡_ {A = ℕ} 8 0). omega arith) e₁ in
+    let (a, e₁) = first-past 6 (not (ltb p (length ps))) _ (eqb-false 6 0 refl) e in
+    let (b, e₂) = first-past 8 (eqb (getD ps p 0) unmadeWord) _ (eqb-false 8 0 refl) e₁ in
     (ltb-true p (length ps) (not-is-false (ltb p (length ps)) a), eqb-false (getD ps p 0) unmadeWord b)
+
+-- a promise that was made may be awaited
+pub made-passes : (ps : List ℕ) (p : ℕ) → getD ps p 0 ≢ unmadeWord → first (getRows ps p) ≡ 0
+unfolding first
+made-passes ps p m = rw (lt-ltb p (length ps) (within-table ps p m), ne-eqb (getD ps p 0) unmadeWord m)
 
 pub ownRows-numbered : (B : ℕ) (ps : List ℕ) (t p : ℕ) → Numbered (ownRows B ps t p)
 ownRows-numbered B ps t p =
-    row (λ (e : _≡_ {A = ℕ} 6 0). omega arith)
-    (row (λ (e : _≡_ {A = ℕ} 8 0). omega arith) (row (λ (e : _≡_ {A = ℕ} 9 0). omega arith) (row (λ (e : _≡_ {A = ℕ} 10 0). omega arith) no-row)))
+    row (eqb-false 6 0 refl)
+    (row (eqb-false 8 0 refl)
+    (row (eqb-false 9 0 refl) (row (eqb-false 17 0 refl) (row (eqb-false 10 0 refl) no-row))))
 
 pub ownRows-none : (B : ℕ) (ps : List ℕ) (t p : ℕ) (rows : List Row) → first (ownRows B ps t p ++ rows) ≡ 0 → (p < length ps) × (getD ps p 0 ≡ ownedBy t) × (first rows ≡ 0)
 ownRows-none B ps t p rows e =
-    let (a, e₁) = first-none 6 (not (ltb p (length ps))) _ (λ (z : _≡_ {A = ℕ} 6 0). omega arith) e in
-    let (b, e₂) = first-none 8 (eqb (getD ps p 0) unmadeWord) _ (λ (z : _≡_ {A = ℕ} 8 0). omega arith) e₁ in
-    let (c, e₃) = first-none 9 (closed B (getD ps p 0)) _ (λ (z : _≡_ {A = ℕ} 9 0). omega arith) e₂ in
-    let (d, e₄) = first-none 10 (not (eqb (getD ps p 0) (ownedBy t))) _ (λ (z : _≡_ {A = ℕ} 10 0). omega arith) e₃ in
-    (ltb-true p (length ps) (not-is-false (ltb p (length ps)) a), eqb-true (getD ps p 0) (ownedBy t) (not-is-false (eqb (getD ps p 0) (ownedBy t)) d), e₄)
+    let (a, e₁) = first-past 6 (not (ltb p (length ps))) _ (eqb-false 6 0 refl) e in
+    let (b, e₂) = first-past 8 (eqb (getD ps p 0) unmadeWord) _ (eqb-false 8 0 refl) e₁ in
+    let (c, e₃) = first-past 9 (eqb (getD ps p 0) setWord) _ (eqb-false 9 0 refl) e₂ in
+    let (d, e₄) = first-past 17 (leb B (getD ps p 0)) _ (eqb-false 17 0 refl) e₃ in
+    let (f, e₅) = first-past 10 (not (eqb (getD ps p 0) (ownedBy t))) _ (eqb-false 10 0 refl) e₄ in
+    (ltb-true p (length ps) (not-is-false (ltb p (length ps)) a), eqb-true (getD ps p 0) (ownedBy t) (not-is-false (eqb (getD ps p 0) (ownedBy t)) f), e₅)
+
+-- 9 is the first that applies: the promise is set
+pub ownRows-nine : (B : ℕ) (ps : List ℕ) (t p : ℕ) (rows : List Row) → first rows ≢ 9 → first (ownRows B ps t p ++ rows) ≡ 9 → getD ps p 0 ≡ setWord
+ownRows-nine B ps t p rows n e =
+    let (a, e₁) = first-past 6 (not (ltb p (length ps))) _ (eqb-false 6 9 refl) e in
+    let (b, e₂) = first-past 8 (eqb (getD ps p 0) unmadeWord) _ (eqb-false 8 9 refl) e₁ in
+    eqb-true (getD ps p 0) setWord (first-hit 9 (eqb (getD ps p 0) setWord) _ later e₂)
+  where
+    later : first ((17, leb B (getD ps p 0)) ∷ (10, not (eqb (getD ps p 0) (ownedBy t))) ∷ rows) ≢ 9
+    later z =
+        let (c, z₁) = first-past 17 (leb B (getD ps p 0)) _ (eqb-false 17 9 refl) z in
+        n (first-past 10 (not (eqb (getD ps p 0) (ownedBy t))) rows (eqb-false 10 9 refl) z₁ .1)
+
+-- 17 is: it is blamed
+pub ownRows-blamed : (B : ℕ) (ps : List ℕ) (t p : ℕ) (rows : List Row) → first rows ≢ 17 → first (ownRows B ps t p ++ rows) ≡ 17 → B ≤ getD ps p 0
+ownRows-blamed B ps t p rows n e =
+    let (a, e₁) = first-past 6 (not (ltb p (length ps))) _ (eqb-false 6 17 refl) e in
+    let (b, e₂) = first-past 8 (eqb (getD ps p 0) unmadeWord) _ (eqb-false 8 17 refl) e₁ in
+    let (c, e₃) = first-past 9 (eqb (getD ps p 0) setWord) _ (eqb-false 9 17 refl) e₂ in
+    leb-true B (getD ps p 0) (first-hit 17 (leb B (getD ps p 0)) _ later e₃)
+  where
+    later : first ((10, not (eqb (getD ps p 0) (ownedBy t))) ∷ rows) ≢ 17
+    later z = n (first-past 10 (not (eqb (getD ps p 0) (ownedBy t))) rows (eqb-false 10 17 refl) z .1)
+
+-- and a promise that is set, or blamed, is refused by these
+pub set-is-nine : (B : ℕ) (ps : List ℕ) (t p : ℕ) (rows : List Row) → getD ps p 0 ≡ setWord → first (ownRows B ps t p ++ rows) ≡ 9
+unfolding first
+set-is-nine B ps t p rows e =
+    let made : getD ps p 0 ≢ 0 = λ (z : getD ps p 0 ≡ 0). omega arith in
+    rw (lt-ltb p (length ps) (within-table ps p made), ne-eqb (getD ps p 0) unmadeWord made, eq-eqb (getD ps p 0) setWord e)
+
+pub blamed-is-17 : (B : ℕ) (ps : List ℕ) (t p : ℕ) (rows : List Row) → setWord < B → B ≤ getD ps p 0 → first (ownRows B ps t p ++ rows) ≡ 17
+unfolding first
+blamed-is-17 B ps t p rows f h =
+    let made : getD ps p 0 ≢ 0 = λ (z : getD ps p 0 ≡ 0). omega arith in
+    rw (
+      lt-ltb p (length ps) (within-table ps p made),
+      ne-eqb (getD ps p 0) unmadeWord made,
+      ne-eqb (getD ps p 0) setWord (λ (z : getD ps p 0 ≡ setWord). omega arith),
+      le-leb B (getD ps p 0) h,
+    )
 
 -- an entry of an async list that nothing is wrong with
 pub entryRefusal-none : (B : ℕ) (ps : List ℕ) (t : ℕ) (list : List ℕ) (i : ℕ) → entryRefusal B ps t list i ≡ 0
@@ -95,7 +161,7 @@ pub entryRefusal-none : (B : ℕ) (ps : List ℕ) (t : ℕ) (list : List ℕ) (i
 unfolding entryRefusal
 entryRefusal-none B ps t list i e =
     let (a, b, e₁) = ownRows-none B ps t (getD list i 0) _ e in
-    let (c, e₂) = first-none 13 (not (allBelow i (differs list (getD list i 0)))) _ (λ (z : _≡_ {A = ℕ} 13 0). omega arith) e₁ in
+    let (c, e₂) = first-past 13 (not (allBelow i (differs list (getD list i 0)))) _ (eqb-false 13 0 refl) e₁ in
     (a, b, not-is-false (allBelow i (differs list (getD list i 0))) c)
 
 -- ---- the first bad place; n - i places are left at i

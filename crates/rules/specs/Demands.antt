@@ -5,15 +5,15 @@
 --   paperNumbers x                      all numbers that a step may be refused by
 --   FirstGiven r rows                   r is the number of the first row that applies
 --   BadPlace B s t list i               i is the first bad place of an async list
---   Refusal a                           the answer a is a refusal
+--   Refusal a, HowRefused F s x a       the answer a is a refusal; it refuses the step x by a row, or for an entry of a list
 --   OwnersFrom s p l                    l are the owners that follow from p, to a ready task
 --   Ring s t p l ws                     ws are the pairs of the ring that t would close by waiting on p
 --   Alarm, Wait, Named, Woken, Demand3  what an alarm, a wait, an end, a set means; demand 3
 -- Assumes nothing.
 use mathlib.Core.Path.{_≡_}
-use mathlib.Core.Logic.{_⊎_, _≢_}
+use mathlib.Core.Logic.{_≢_}
 use mathlib.Core.List.{List, [], _∷_, _++_}
-use mathlib.Core.Bool.{Bool, true, false}
+use mathlib.Core.Bool.{true, false}
 use Prim.Native.Nat.{ℕ, suc, _+_, _-_, _≤_, _<_}
 use lib.ListN.{length, take}
 use Rattle.words.specs.Words.{Form, inBounds, readyWord, endedWord, waitsOn, setWord, firstOwned, ownedBy, blamedOn}
@@ -21,10 +21,11 @@ use Rattle.words.specs.Lists.{In, Rising}
 use Rattle.rules.specs.Tables.{Tables, taskAt, promiseAt, liveTasks}
 use Rattle.rules.specs.Chains.{Chain, chainEnd, waits}
 use Rattle.rules.specs.Sound.{Live, Sound}
-use Rattle.rules.specs.Refusals.{Row, entryRows, entryRefusal}
-use Rattle.rules.specs.Steps.{Step, step-new, step-set, step-get, step-async, step-end, actor, Outcome, outcome, step, run}
+use Rattle.rules.specs.Answers.{refusedAtWith}
+use Rattle.rules.specs.Refusals.{Row, entryRows}
+use Rattle.rules.specs.Steps.{Step, step-new, step-set, step-get, step-async, step-end, actor, Outcome, stepRefused, step, run}
 use Rattle.rules.specs.declared.Answer.{Answer}
-use Rattle.rules.specs.declared.Answer.the-variants.{Ended, Refused, RefusedAt}
+use Rattle.rules.specs.declared.Answer.the-variants.{Ended, Refused, RefusedAt, RefusedBlamed, RefusedBlamedAt}
 
 abbrev pub Apart : Form → Type 0
 Apart F = firstOwned + F .mostTasks ≤ F .base
@@ -40,17 +41,17 @@ abbrev pub numbers : List Row → List ℕ
 numbers [] = []
 numbers ((r, applies) ∷ rows) = r ∷ numbers rows
 
--- the paper's table, from the top, and its last column: which refusals a step has, and in which order
+-- the paper's table, from the top, and its last column: which refusals a step has, and in which order; 02, 3/13, puts 17 directly after 9
 abbrev pub paperRows : Step → List ℕ
 paperRows (step-new t p) = 1 ∷ 2 ∷ 3 ∷ 4 ∷ 5 ∷ 6 ∷ 7 ∷ []
-paperRows (step-set t p) = 1 ∷ 2 ∷ 3 ∷ 4 ∷ 5 ∷ 6 ∷ 8 ∷ 9 ∷ 10 ∷ []
+paperRows (step-set t p) = 1 ∷ 2 ∷ 3 ∷ 4 ∷ 5 ∷ 6 ∷ 8 ∷ 9 ∷ 17 ∷ 10 ∷ []
 paperRows (step-get t p) = 1 ∷ 2 ∷ 3 ∷ 4 ∷ 5 ∷ 6 ∷ 8 ∷ []
 paperRows (step-async t c list) = 1 ∷ 2 ∷ 3 ∷ 4 ∷ 5 ∷ 11 ∷ 12 ∷ []
 paperRows (step-end t) = 1 ∷ 2 ∷ 3 ∷ 4 ∷ 5 ∷ []
 
--- "each entry is tried for 6, 8, 9, 10, 13 in turn"
+-- "each entry is tried for 6, 8, 9, 10, 13 in turn", and for 17 directly after 9
 abbrev pub paperEntryRows : List ℕ
-paperEntryRows = 6 ∷ 8 ∷ 9 ∷ 10 ∷ 13 ∷ []
+paperEntryRows = 6 ∷ 8 ∷ 9 ∷ 17 ∷ 10 ∷ 13 ∷ []
 
 -- every number that a step may be refused by
 abbrev pub paperNumbers : Step → List ℕ
@@ -78,6 +79,13 @@ pub record BadPlace (B : ℕ) (ps : List ℕ) (t : ℕ) (list : List ℕ) (r i :
 pub data Refusal : Answer → Type 0 where
   plain : (r : ℕ) → Refusal (Refused r)
   placed : (r i : ℕ) → Refusal (RefusedAt r i)
+  blamed : (b : ℕ) → Refusal (RefusedBlamed b)
+  blamed-at : (i b : ℕ) → Refusal (RefusedBlamedAt i b)
+
+-- the answer a refuses the step x by a row of its table, or, of an async, for an entry of its list
+pub data HowRefused (F : Form) (s : Tables) (x : Step) : Answer → Type 0 where
+  by-row : (r : ℕ) → HowRefused F s x (stepRefused F s x r)
+  for-entry : (t c : ℕ) (list : List ℕ) (i b r : ℕ) → x ≡ step-async t c list → HowRefused F s x (refusedAtWith b i r)
 
 -- ---- demand 2: "A get alarms exactly when the chain of owners and waits leads back to the asker."
 

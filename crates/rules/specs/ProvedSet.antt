@@ -3,6 +3,7 @@
 --
 --   Case                  the tables before, the report's length and the step; then what is expected: the answer, the tables after, the report words
 --   provedSet             the table
+--   blamedSet             02, 3/13: a blamed promise beside an owned and a set one, set and listed
 --   taken c, expected c   what the rules say of a row, and what the row says
 -- Assumes nothing.
 use Prim.Native.Nat.{ℕ}
@@ -11,7 +12,7 @@ use Rattle.words.specs.Words.{small}
 use Rattle.rules.specs.Tables.{Tables, tables}
 use Rattle.rules.specs.Steps.{Step, step-new, step-set, step-get, step-async, step-end, Outcome, outcome, step}
 use Rattle.rules.specs.declared.Answer.{Answer}
-use Rattle.rules.specs.declared.Answer.the-variants.{Made, Set, Value, Blamed, Waits, Cycle, Started, Ended, Refused, RefusedAt}
+use Rattle.rules.specs.declared.Answer.the-variants.{Made, Set, Blamed, Waits, Cycle, Started, Ended, Refused, RefusedAt, RefusedBlamed, RefusedBlamedAt}
 
 pub record Case : Type 0 where
   pub before : Tables
@@ -85,4 +86,21 @@ provedSet =
     ∷ case (tables (1 ∷ []) (16 ∷ [])) 3 (step-get 0 0) (Cycle 1) (tables (1 ∷ []) (16 ∷ [])) (0 ∷ 0 ∷ [])
     -- "Child equal to actor: 12"
     ∷ case (tables (1 ∷ 0 ∷ []) []) 4 (step-async 0 0 []) (Refused 12) (tables (1 ∷ 0 ∷ []) []) []
+    ∷ []
+
+-- task 0 is ready and task 1 has ended; promise 0 is owned by 0, promise 1 blamed on 1, promise 2 set, promise 3 unmade
+abbrev pub oneBlamed : Tables
+oneBlamed = tables (1 ∷ 2 ∷ 0 ∷ []) (16 ∷ 81 ∷ 1 ∷ 0 ∷ [])
+
+-- "17 with the blamed task (and for async the place before it), directly after 9; 9 is given for a set promise alone"
+abbrev pub blamedSet : List Case
+blamedSet =
+    case oneBlamed 10 (step-set 0 1) (RefusedBlamed 1) oneBlamed []
+    ∷ case oneBlamed 10 (step-set 0 2) (Refused 9) oneBlamed []
+    ∷ case oneBlamed 10 (step-set 0 3) (Refused 8) oneBlamed []
+    ∷ case oneBlamed 10 (step-get 0 1) (Blamed 1) oneBlamed []
+    ∷ case oneBlamed 10 (step-async 0 2 (1 ∷ [])) (RefusedBlamedAt 0 1) oneBlamed []
+    ∷ case oneBlamed 10 (step-async 0 2 (0 ∷ 1 ∷ 2 ∷ [])) (RefusedBlamedAt 1 1) oneBlamed []
+    ∷ case oneBlamed 10 (step-async 0 2 (0 ∷ 2 ∷ 1 ∷ [])) (RefusedAt 9 1) oneBlamed []
+    ∷ case oneBlamed 10 (step-async 0 2 (0 ∷ 0 ∷ 1 ∷ [])) (RefusedAt 13 1) oneBlamed []
     ∷ []

@@ -1,4 +1,4 @@
--- The refusals by number, in their order. Paper: 01, "Refusals by number, in this order".
+-- The refusals by number, in their order. Paper: 01, "Refusals by number, in this order"; 02, 3/13.
 --
 --   Row, first rows        a number and whether it applies; the first that applies, 0 where none does
 --   earlier a b            the first of two refusals, where 0 is none
@@ -7,18 +7,18 @@
 --   childRows ts c         11 and 12
 --   newRows ps p           6 and 7
 --   getRows ps p           6 and 8
---   ownRows B ps t p       6, 8, 9 and 10
---   entryRows B ps t l i   6, 8, 9, 10 and 13, of entry i of an async list
+--   ownRows B ps t p       6, 8, 9, 17 and 10
+--   entryRows B ps t l i   6, 8, 9, 17, 10 and 13, of entry i of an async list
 --   firstBad f n i         the first place from i on, below n, whose refusal by f is not 0; n where there is none
 -- Assumes nothing.
 use Prim.Native.Nat.{ℕ, zero, suc, _-_}
 use mathlib.Core.List.{List, [], _∷_, _++_}
 use mathlib.Core.Bool.{Bool, cond, not}
-use lib.Dec.{eqb, ltb}
+use lib.Dec.{eqb, leb, ltb}
 use lib.ListN.{length, getD}
-use Rattle.words.specs.Words.{Form, inBounds, unusedWord, unmadeWord, ownedBy}
+use Rattle.words.specs.Words.{Form, inBounds, unusedWord, unmadeWord, setWord, ownedBy}
 use Rattle.words.specs.Lists.{allBelow}
-use Rattle.rules.specs.Tables.{Tables, live, waiting, closed}
+use Rattle.rules.specs.Tables.{Tables, live, waiting}
 use Rattle.rules.specs.Sound.{soundTest}
 
 abbrev pub Row : Type 0
@@ -67,7 +67,8 @@ abbrev pub ownRows : ℕ → List ℕ → ℕ → ℕ → List Row
 ownRows B ps t p =
     (6, not (ltb p (length ps)))  -- "promise not below P"
     ∷ (8, eqb (getD ps p 0) unmadeWord)  -- "promise never made"
-    ∷ (9, closed B (getD ps p 0))  -- "promise closed"
+    ∷ (9, eqb (getD ps p 0) setWord)  -- "9 is given for a set promise alone"
+    ∷ (17, leb B (getD ps p 0))  -- "A set or async on a blamed promise", "directly after 9"
     ∷ (10, not (eqb (getD ps p 0) (ownedBy t)))  -- "acting task is not the owner"
     ∷ []
 
@@ -75,7 +76,7 @@ ownRows B ps t p =
 unfoldable pub differs : List ℕ → ℕ → ℕ → Bool
 differs list q j = not (eqb (getD list j 0) q)
 
--- "each entry is tried for 6, 8, 9, 10, 13 in turn"
+-- "each entry is tried for 6, 8, 9, 10, 13 in turn", and for 17 directly after 9
 abbrev pub entryRows : ℕ → List ℕ → ℕ → List ℕ → ℕ → List Row
 entryRows B ps t list i =
     ownRows B ps t (getD list i 0)

@@ -1,4 +1,4 @@
--- The five steps: what each answers, the tables after it, and the report words. Paper: 01, "The five steps".
+-- The five steps: what each answers, the tables after it, and the report words. Paper: 01, "The five steps"; 02, 3/13.
 --
 --   Step                    a step with its numbers
 --   Outcome                 the answer, the tables after it, and the words that the report then begins with
@@ -6,6 +6,8 @@
 --   walk, Found             following owners, on behalf of a get
 --   pairs k s t p           the pairs of a ring
 --   rows F s x              the refusals from 3 on, of each step
+--   stepRefused F s x r     the answer that refuses the step by r
+--   entryRefused B s t l i  the answer that refuses an async for the entry i of its list
 --   effect F s x            what the step does where none of them applies
 --   raw F s x, step F n s x the rules without and with refusals 1 and 2; n is the report's length
 --   run F n s xs            the tables after the steps xs
@@ -17,11 +19,12 @@ use lib.Dec.{eqb, leb, ltb}
 use lib.ListN.{length, getD, set}
 use Rattle.words.specs.Words.{Form, readyWord, endedWord, waitsOn, firstWait, setWord, ownedBy, firstOwned, blamedOn}
 use Rattle.words.specs.Lists.{is, places, replaced}
-use Rattle.rules.specs.Tables.{Tables, tables, taskAt, promiseAt, waiting, awaitedBy, ownerOf}
+use Rattle.rules.specs.Tables.{Tables, tables, promiseAt, waiting, awaitedBy, ownerOf, blamedTask}
 use Rattle.rules.specs.Sound.{Hop, ready, lost, to, hop}
+use Rattle.rules.specs.Answers.{byNumber, refusedWith, refusedAtWith}
 use Rattle.rules.specs.Refusals.{Row, first, tableRows, actorRows, childRows, newRows, getRows, ownRows, entryRefusal, firstBad}
 use Rattle.rules.specs.declared.Answer.{Answer}
-use Rattle.rules.specs.declared.Answer.the-variants.{Made, Set, Value, Blamed, Waits, Cycle, Started, Ended, Refused, RefusedAt}
+use Rattle.rules.specs.declared.Answer.the-variants.{Made, Set, Value, Blamed, Waits, Cycle, Started, Ended}
 
 pub data Step : Type 0 where
   step-new step-set step-get : ℕ → ℕ → Step
@@ -118,15 +121,17 @@ got B s t p w =
 
 -- ---- the steps
 
--- "Each refusal returns its number (and place) and writes to no table and no report."
-unfoldable pub guarded : ℕ → Tables → Outcome → Outcome
-guarded r s o = cond (eqb r 0) o (outcome (Refused r) s [])
+-- "Each refusal returns its number (and place) and writes to no table and no report." a is the answer that returns a number.
+unfoldable pub guarded : (ℕ → Answer) → ℕ → Tables → Outcome → Outcome
+guarded a r s o = cond (eqb r 0) o (outcome (a r) s [])
+
+-- the answer that refuses an async for entry i of its list: "17 with the blamed task (and for async the place before it)"
+abbrev pub entryRefused : ℕ → Tables → ℕ → List ℕ → ℕ → Answer
+entryRefused B s t list i = refusedAtWith (blamedTask B s (getD list i 0)) i (entryRefusal B (s .promises) t list i)
 
 -- async, where i is the first bad place of the list. "Async moves all or nothing."
 unfoldable pub started : ℕ → Tables → ℕ → ℕ → List ℕ → ℕ → Outcome
-started B s t c list i =
-    cond (ltb i (length list)) (outcome (RefusedAt (entryRefusal B (s .promises) t list i) i) s [])
-    (outcome Started (withStarted s c list) [])
+started B s t c list i = cond (ltb i (length list)) (outcome (entryRefused B s t list i) s []) (outcome Started (withStarted s c list) [])
 
 -- the refusals of each step, after 1 and 2 and before those of a list entry
 abbrev pub rows : Form → Tables → Step → List Row
@@ -135,6 +140,14 @@ rows F s (step-set t p) = actorRows (s .tasks) t ++ ownRows (F .base) (s .promis
 rows F s (step-get t p) = actorRows (s .tasks) t ++ getRows (s .promises) p
 rows F s (step-async t c list) = actorRows (s .tasks) t ++ childRows (s .tasks) c
 rows F s (step-end t) = actorRows (s .tasks) t
+
+-- the answer that refuses a step by r, one of its rows: "A set .. on a blamed promise must tell the blamed task"
+abbrev pub stepRefused : Form → Tables → Step → ℕ → Answer
+stepRefused F s (step-new t p) r = byNumber r
+stepRefused F s (step-set t p) r = refusedWith (blamedTask (F .base) s p) r
+stepRefused F s (step-get t p) r = byNumber r
+stepRefused F s (step-async t c list) r = byNumber r
+stepRefused F s (step-end t) r = byNumber r
 
 -- what a step answers, does and reports
 abbrev pub effect : Form → Tables → Step → Outcome
@@ -148,11 +161,11 @@ effect F s (step-end t) =
 
 -- the rules without refusals 1 and 2
 abbrev pub raw : Form → Tables → Step → Outcome
-raw F s x = guarded (first (rows F s x)) s (effect F s x)
+raw F s x = guarded (stepRefused F s x) (first (rows F s x)) s (effect F s x)
 
 -- "Every step tests soundness before all but the bounds of refusal 1."
 abbrev pub step : Form → ℕ → Tables → Step → Outcome
-step F n s x = guarded (first (tableRows F n s)) s (raw F s x)
+step F n s x = guarded byNumber (first (tableRows F n s)) s (raw F s x)
 
 abbrev pub run : Form → ℕ → Tables → List Step → Tables
 run F n s [] = s

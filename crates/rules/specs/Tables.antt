@@ -6,13 +6,14 @@
 --   closed B w                a promise with the word w is set or blamed
 --   awaitedBy s t             the promise that t awaits, if it waits
 --   ownerOf s p               the task that owns p, if it is owned
+--   blamedTask B s p          the task that p is blamed on, if it is blamed
 --   fresh T P                 fresh tables
 -- Assumes nothing.
 use Prim.Native.Nat.{ℕ, _-_}
 use mathlib.Core.List.{List}
 use mathlib.Core.Bool.{Bool, _||_}
 use lib.Dec.{eqb, leb}
-use lib.ListN.{length, getD, set, replicate}
+use lib.ListN.{getD, set, replicate}
 use Rattle.words.specs.Words.{readyWord, firstWait, setWord, firstOwned}
 use Rattle.words.specs.Lists.{count}
 
@@ -45,12 +46,15 @@ liveTasks s = count live (s .tasks)
 abbrev pub closed : ℕ → ℕ → Bool
 closed B w = eqb w setWord || leb B w
 
--- "16+p waits on p", "16+t owned by t", read back
+-- "16+p waits on p", "16+t owned by t", "80+t blamed on t", read back
 abbrev pub awaitedBy : Tables → ℕ → ℕ
 awaitedBy s t = taskAt s t - firstWait
 
 abbrev pub ownerOf : Tables → ℕ → ℕ
 ownerOf s p = promiseAt s p - firstOwned
+
+abbrev pub blamedTask : ℕ → Tables → ℕ → ℕ
+blamedTask B s p = promiseAt s p - B
 
 -- "Fresh tables: task 0 is ready and every other word is 0"
 abbrev pub fresh : ℕ → ℕ → Tables
