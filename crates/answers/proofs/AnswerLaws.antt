@@ -69,9 +69,12 @@ unfolding fieldsText
 fieldsText-append [] ns = refl
 fieldsText-append (m ∷ ms) ns = rw (fieldsText-append ms ns) (sym (append-assoc (fieldText m) (fieldsText ms) (fieldsText ns)))
 
--- two numbers
+-- two numbers, and three
 pub fieldsText-two : (m n : ℕ) → fieldsText (m ∷ n ∷ []) ≡ fieldsText (m ∷ []) ++ fieldsText (n ∷ [])
 fieldsText-two m n = fieldsText-append (m ∷ []) (n ∷ [])
+
+pub fieldsText-three : (l m n : ℕ) → fieldsText (l ∷ m ∷ n ∷ []) ≡ fieldsText (l ∷ []) ++ fieldsText (m ∷ []) ++ fieldsText (n ∷ [])
+fieldsText-three l m n = fieldsText-append (l ∷ m ∷ []) (n ∷ []) ∙ ap (λ (x : List ℕ). x ++ fieldsText (n ∷ [])) (fieldsText-two l m)
 
 -- ---- the whole line
 

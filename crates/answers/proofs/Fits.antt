@@ -1,6 +1,6 @@
 -- Every answer line has room in the lent one. A line number has at most 6 digits and a word at most 7 bytes; the fields of a step's answer
--- are at most 322 numbers below 1000, since they are numbers and places of tables that were found within their bounds and sound, or the
--- number of a refusal. So the line has at most 1,303 bytes. It shows the words of its own step alone (`shown-words`). A bad line's answer has
+-- are at most 323 numbers below 1000, since they are numbers and places of tables that were found within their bounds and sound, or the
+-- number of a refusal. So the line has at most 1,307 bytes. It shows the words of its own step alone (`shown-words`). A bad line's answer has
 -- two numbers of at most six digits (`placed-fits`).
 -- Assumes nothing.
 use Prim.Native.Nat.{ℕ, zero, suc, _+_, _*_, _≤_, _<_}
@@ -10,21 +10,23 @@ use mathlib.Core.Path.{_≡_, refl, sym, subst}
 use native.Mathlib.Omega.{arith}
 use lib.Dec.{ltb}
 use borrow.Author.Tests.{ltb-true}
-use lib.ListN.{length, length-append}
+use lib.ListN.{length, getD, length-append}
 use Rattle.words.specs.Words.{Form, small, waitsOn, ownedBy, lastLine}
 use Rattle.words.specs.Lists.{is, places, over}
 use Rattle.words.proofs.ListLaws.{places-at, places-length, count-le, allPass, in-passes}
 use Rattle.words.proofs.WordLaws.{inBounds-true}
-use Rattle.rules.specs.Tables.{Tables, taskAt, promiseAt, live, awaitedBy, ownerOf}
+use Rattle.rules.specs.Tables.{Tables, taskAt, promiseAt, live, awaitedBy, ownerOf, blamedTask}
 use Rattle.rules.specs.Sound.{TaskWord, unused, ready, ended, waits, PromiseWord, unmade, done, owned, blamed, Sound}
 use Rattle.rules.specs.Answers.{numberOf, valuesOf}
 use Rattle.rules.specs.Refusals.{first, tableRows, getRows, entryRefusal, firstBad}
-use Rattle.rules.specs.Steps.{Step, step-new, step-set, step-get, step-async, step-end, Outcome, outcome, awaits, withWait, pairs, followed, rows, effect, raw, step}
+use Rattle.rules.specs.Steps.{Step, step-new, step-set, step-get, step-async, step-end, Outcome, outcome, awaits, withWait, pairs, followed, rows, stepRefused, effect, raw, step}
 use Rattle.rules.specs.Demands.{paperNumbers, Refusal, plain, placed}
 use Rattle.rules.specs.declared.Answer.{Answer}
-use Rattle.rules.specs.declared.Answer.the-variants.{Opened, Made, Set, Value, Blamed, Waits, Cycle, Started, Ended, Refused, RefusedAt}
+use Rattle.rules.specs.declared.Answer.the-variants.{Opened, Made, Set, Value, Blamed, Waits, Cycle, Started, Ended, Refused, RefusedAt, RefusedBlamed, RefusedBlamedAt}
+use Rattle.rules.proofs.GuardLaws.{guarded-by, started-by}
 use Rattle.rules.proofs.Accepted.{got-is}
-use Rattle.rules.proofs.Counts.{guarded-by, started-by, pairs-length}
+use Rattle.rules.proofs.AnswerLaws.{with-by, at-with-by}
+use Rattle.rules.proofs.Counts.{pairs-length}
 use Rattle.rules.proofs.GivesLaws.{tableRows-none}
 use Rattle.rules.proofs.PlaceLaws.{firstBad-place}
 use Rattle.rules.proofs.RefusalLaws.{actorRows-none, getRows-none}
@@ -54,12 +56,14 @@ wordOf-length Started = omega arith
 wordOf-length (Ended m n) = omega arith
 wordOf-length (Refused r) = omega arith
 wordOf-length (RefusedAt r i) = omega arith
+wordOf-length (RefusedBlamed b) = omega arith
+wordOf-length (RefusedBlamedAt i b) = omega arith
 
-text-fits : (n : ℕ) (a : Answer) (rs : List ℕ) → n ≤ lastLine → length (fieldsText (fieldsOf a rs)) ≤ 4 * 322 → length (answerText n a rs) ≤ longestAnswer
+text-fits : (n : ℕ) (a : Answer) (rs : List ℕ) → n ≤ lastLine → length (fieldsText (fieldsOf a rs)) ≤ 4 * 323 → length (answerText n a rs) ≤ longestAnswer
 unfolding answerText
 text-fits n a rs h few = rw (length-append, length-append, length-append) (omega (arith, dec-six n (omega arith), wordOf-length a))
 
-low-fits : (n : ℕ) (a : Answer) (rs : List ℕ) → n ≤ lastLine → Every Low (fieldsOf a rs) → length (fieldsOf a rs) ≤ 322 → length (answerText n a rs) ≤ longestAnswer
+low-fits : (n : ℕ) (a : Answer) (rs : List ℕ) → n ≤ lastLine → Every Low (fieldsOf a rs) → length (fieldsOf a rs) ≤ 323 → length (answerText n a rs) ≤ longestAnswer
 low-fits n a rs h low few = text-fits n a rs h (omega (arith, fieldsText-four (fieldsOf a rs) low))
 
 pub refused-fits : (n r : ℕ) (rs : List ℕ) → n ≤ lastLine → r < 1000 → length (answerText n (Refused r) rs) ≤ longestAnswer
@@ -102,14 +106,17 @@ places-few f ws h = omega (arith, places-length f 0 ws)
 
 -- what a step of sound tables within their bounds answers
 module _ (s : Tables) (tasks : length (s .tasks) ≤ small .mostTasks) (promises : length (s .promises) ≤ small .mostPromises) (sd : Sound (small .base) s) where
-  owner-low : (p : ℕ) → Low (ownerOf s p)
-  owner-low p = go (sd .promiseWord p)
+  promise-low : (p : ℕ) → Low (promiseAt s p)
+  promise-low p = go (sd .promiseWord p)
     where
-      go : PromiseWord (length (s .tasks)) (small .base) (promiseAt s p) → Low (ownerOf s p)
+      go : PromiseWord (length (s .tasks)) (small .base) (promiseAt s p) → Low (promiseAt s p)
       go (unmade e) = omega arith
       go (done e) = omega arith
       go (owned t h e) = omega arith
       go (blamed t h e) = omega arith
+
+  owner-low : (p : ℕ) → Low (ownerOf s p)
+  owner-low p = omega (arith, promise-low p)
 
   awaited-low : (t : ℕ) → Low (awaitedBy s t)
   awaited-low t = go (sd .taskWord t)
@@ -119,6 +126,9 @@ module _ (s : Tables) (tasks : length (s .tasks) ≤ small .mostTasks) (promises
       go (ready e) = omega arith
       go (ended e) = omega arith
       go (waits p h e) = omega arith
+
+  blamed-low : (p : ℕ) → Low (blamedTask (small .base) s p)
+  blamed-low p = omega (arith, promise-low p)
 
   pairs-low : (k t p : ℕ) → Low t → Low p → Every Low (pairs k s t p)
   unfolding pairs
@@ -143,6 +153,14 @@ module _ (s : Tables) (tasks : length (s .tasks) ≤ small .mostTasks) (promises
       })
       (λ u l h o c z. modest (withWait s t p) (one-more (omega (arith, chain-bound s c, count-le live (s .tasks))) no-more))
 
+  refusal-modest : (x : Step) (r : ℕ) → Modest (outcome (stepRefused small s x r) s [])
+  unfolding valuesOf
+  refusal-modest (step-new t p) r = modest s no-more
+  refusal-modest (step-set t p) r = with-by (λ (a : Answer). Modest (outcome a s [])) _ r (λ z. modest s (one-more (blamed-low p) no-more)) (λ z. modest s no-more)
+  refusal-modest (step-get t p) r = modest s no-more
+  refusal-modest (step-async t c list) r = modest s no-more
+  refusal-modest (step-end t) r = modest s no-more
+
   effect-modest : (x : Step) → first (rows small s x) ≡ 0 → Modest (effect small s x)
   unfolding valuesOf
   effect-modest (step-new t p) e = modest _ no-more
@@ -156,7 +174,9 @@ module _ (s : Tables) (tasks : length (s .tasks) ≤ small .mostTasks) (promises
   effect-modest (step-async t c list) e =
       let bad = firstBad (entryRefusal (small .base) (s .promises) t list) (length list) 0 in
       let at : Low bad = omega (arith, firstBad-place (small .base) (s .promises) t list (length list)) in
-      started-by Modest (small .base) s t c list bad (modest s (one-more at no-more)) (modest _ no-more)
+      started-by Modest (small .base) s t c list bad
+      (λ h. at-with-by (λ (a : Answer). Modest (outcome a s [])) _ bad _ (λ z. modest s (one-more at (one-more (blamed-low (getD list bad 0)) no-more))) (λ z. modest s (one-more at no-more)))
+      (λ h. modest _ no-more)
   effect-modest (step-end t) e =
       let mine = is (ownedBy t) in
       let theirs = awaits (s .promises) (ownedBy t) in
@@ -166,20 +186,17 @@ module _ (s : Tables) (tasks : length (s .tasks) ≤ small .mostTasks) (promises
         few = rw length-append (omega (arith, places-length mine 0 (s .promises), places-length theirs 0 (s .tasks)));
       }
 
-refused-modest : (s : Tables) (r : ℕ) → Modest (outcome (Refused r) s [])
-unfolding valuesOf
-refused-modest s r = modest s no-more
-
 -- refused or not, in whatever tables
 step-modest : (m : ℕ) (s : Tables) (x : Step) → Modest (step small m s x)
-step-modest m s x = guarded-by Modest (first (tableRows small m s)) s (raw small s x) (λ y. refused-modest s _) within
+unfolding valuesOf
+step-modest m s x = guarded-by Modest _ (first (tableRows small m s)) s (raw small s x) (λ y. modest s no-more) within
   where
     within : first (tableRows small m s) ≡ 0 → Modest (raw small s x)
     within z =
         let (b, e) = tableRows-none small m s z in
         let size = inBounds-true small (length (s .tasks)) (length (s .promises)) m b in
         let sd = test-means-sound (small .base) s (omega (arith, size .tasks)) e in
-        guarded-by Modest (first (rows small s x)) s (effect small s x) (λ y. refused-modest s _)
+        guarded-by Modest _ (first (rows small s x)) s (effect small s x) (λ y. refusal-modest s (size .tasks) (size .promises) sd x _)
         (λ y. effect-modest s (size .tasks) (size .promises) sd x y)
 
 -- a refusal's number is one of the paper's, and any other is at most 108
@@ -196,6 +213,8 @@ answer-low Started h = omega arith
 answer-low (Ended m n) h = omega arith
 answer-low (Refused r) h = h (plain r)
 answer-low (RefusedAt r i) h = h (placed r i)
+answer-low (RefusedBlamed b) h = omega arith
+answer-low (RefusedBlamedAt i b) h = omega arith
 
 papers-low : (x : Step) → allPass (λ r. ltb r 1000) (paperNumbers x) ≡ true
 papers-low (step-new t p) = refl
@@ -218,4 +237,4 @@ step-answer-fits n m s x rs h =
     let own = sym (shown-words small m s x rs) in
     low-fits n (o .answer) (over (o .words) rs) h
     (subst (Every Low) own (fieldsOf-every Low (o .answer) (o .words) (step-low m s x) (d .values) (d .words)))
-    (subst (λ (ns : List ℕ). length ns ≤ 322) own (omega (arith, fieldsOf-length (o .answer) (o .words), d .few)))
+    (subst (λ (ns : List ℕ). length ns ≤ 323) own (omega (arith, fieldsOf-length (o .answer) (o .words), d .few)))

@@ -1,5 +1,5 @@
 -- Laws of `fieldsOf` for what an answer shows of the report: with enough words written at the report's start, the fields are the same as
--- from these words alone, whatever the report held before; there are at most two more of them than words; and they are as small as the
+-- from these words alone, whatever the report held before; there are at most three more of them than words; and they are as small as the
 -- answer's own numbers and the words are. Assumes nothing.
 use Prim.Native.Nat.{ℕ, zero, suc, _+_, _*_, _≤_}
 use mathlib.Core.List.{List, [], _∷_, _++_}
@@ -10,7 +10,7 @@ use Rattle.words.specs.Lists.{over, In, top, pop}
 use Rattle.writers.specs.Texts.{partOf, Every, no-more, one-more}
 use Rattle.rules.specs.Answers.{numberOf, valuesOf, wordCount}
 use Rattle.rules.specs.declared.Answer.{Answer}
-use Rattle.rules.specs.declared.Answer.the-variants.{Opened, Made, Set, Value, Blamed, Waits, Cycle, Started, Ended, Refused, RefusedAt}
+use Rattle.rules.specs.declared.Answer.the-variants.{Opened, Made, Set, Value, Blamed, Waits, Cycle, Started, Ended, Refused, RefusedAt, RefusedBlamed, RefusedBlamedAt}
 use Rattle.answers.specs.AnswerText.{fieldsOf}
 
 -- ---- the report's first words
@@ -40,13 +40,15 @@ fieldsOf-over Started ws rs h = refl
 fieldsOf-over (Ended m n) ws rs h = rw (part-over 0 m ws rs (omega arith), part-over m n ws rs h)
 fieldsOf-over (Refused r) ws rs h = refl
 fieldsOf-over (RefusedAt r i) ws rs h = refl
+fieldsOf-over (RefusedBlamed b) ws rs h = refl
+fieldsOf-over (RefusedBlamedAt i b) ws rs h = refl
 
 -- ---- how many fields there are
 
 part-length : (ws : List ℕ) (from n : ℕ) → length (partOf ws from n) ≤ length ws
 part-length ws from n = rw (length-take, length-drop) (omega arith)
 
-pub fieldsOf-length : (a : Answer) (ws : List ℕ) → length (fieldsOf a ws) ≤ 2 + length ws
+pub fieldsOf-length : (a : Answer) (ws : List ℕ) → length (fieldsOf a ws) ≤ 3 + length ws
 unfolding fieldsOf
 fieldsOf-length Opened ws = omega arith
 fieldsOf-length Made ws = omega arith
@@ -59,6 +61,8 @@ fieldsOf-length Started ws = omega arith
 fieldsOf-length (Ended m n) ws = rw length-append (omega (arith, length-take m ws, length-take n (drop m ws), length-drop m ws))
 fieldsOf-length (Refused r) ws = omega arith
 fieldsOf-length (RefusedAt r i) ws = omega arith
+fieldsOf-length (RefusedBlamed b) ws = omega arith
+fieldsOf-length (RefusedBlamedAt i b) ws = omega arith
 
 -- ---- how large they are
 
@@ -98,3 +102,5 @@ module _ (P : ℕ → Type 0) where
   fieldsOf-every (Ended m n) ws p (one-more q (one-more r v)) w = every-append (one-more q (every-part 0 m w)) (one-more r (every-part m n w))
   fieldsOf-every (Refused r) ws p v w = one-more p no-more
   fieldsOf-every (RefusedAt r i) ws p v w = one-more p v
+  fieldsOf-every (RefusedBlamed b) ws p v w = one-more p v
+  fieldsOf-every (RefusedBlamedAt i b) ws p v w = one-more p v

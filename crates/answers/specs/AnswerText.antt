@@ -1,5 +1,6 @@
--- The text of an answer. Paper: 01, "Lines", "Answer fields", and "the answer's first field is the line number".
+-- The text of an answer. Paper: 01, "Lines", "Answer fields", and "the answer's first field is the line number"; 02, 3/13.
 --
+--   refusedWord          the word of a refusal
 --   wordOf a             the word of the answer a
 --   fieldsOf a rs        the numbers after it; rs is the report, whose first words are the answer's own
 --   answerText n a rs    the whole answer line of line n, with its LF
@@ -11,7 +12,10 @@ use Rattle.fields.specs.Fields.{tab, lineEnd}
 use Rattle.numbers.specs.Numbers.{dec}
 use Rattle.writers.specs.Texts.{fieldsText, partOf}
 use Rattle.rules.specs.declared.Answer.{Answer}
-use Rattle.rules.specs.declared.Answer.the-variants.{Opened, Made, Set, Value, Blamed, Waits, Cycle, Started, Ended, Refused, RefusedAt}
+use Rattle.rules.specs.declared.Answer.the-variants.{Opened, Made, Set, Value, Blamed, Waits, Cycle, Started, Ended, Refused, RefusedAt, RefusedBlamed, RefusedBlamedAt}
+
+abbrev pub refusedWord : List ℕ
+refusedWord = 114 ∷ 101 ∷ 102 ∷ 117 ∷ 115 ∷ 101 ∷ 100 ∷ []
 
 -- "`opened`; `made`; `set n tasks..`; `value`; `blamed b`; `waits k`; `cycle k pairs..`; `started`; `ended m promises.. n tasks..`; `refused r`"
 unfoldable pub wordOf : Answer → List ℕ
@@ -24,10 +28,12 @@ wordOf (Waits k) = 119 ∷ 97 ∷ 105 ∷ 116 ∷ 115 ∷ []
 wordOf (Cycle k) = 99 ∷ 121 ∷ 99 ∷ 108 ∷ 101 ∷ []
 wordOf Started = 115 ∷ 116 ∷ 97 ∷ 114 ∷ 116 ∷ 101 ∷ 100 ∷ []
 wordOf (Ended m n) = 101 ∷ 110 ∷ 100 ∷ 101 ∷ 100 ∷ []
-wordOf (Refused r) = 114 ∷ 101 ∷ 102 ∷ 117 ∷ 115 ∷ 101 ∷ 100 ∷ []
-wordOf (RefusedAt r i) = 114 ∷ 101 ∷ 102 ∷ 117 ∷ 115 ∷ 101 ∷ 100 ∷ []
+wordOf (Refused r) = refusedWord
+wordOf (RefusedAt r i) = refusedWord
+wordOf (RefusedBlamed b) = refusedWord
+wordOf (RefusedBlamedAt i b) = refusedWord
 
--- "`refused r`, with the place as one more field for a list entry"
+-- "`refused r`, with the place as one more field for a list entry"; 02, 3/13: "17 with the blamed task (and for async the place before it)"
 unfoldable pub fieldsOf : Answer → List ℕ → List ℕ
 fieldsOf Opened rs = []
 fieldsOf Made rs = []
@@ -40,6 +46,8 @@ fieldsOf Started rs = []
 fieldsOf (Ended m n) rs = (m ∷ partOf rs 0 m) ++ n ∷ partOf rs m n
 fieldsOf (Refused r) rs = r ∷ []
 fieldsOf (RefusedAt r i) rs = r ∷ i ∷ []
+fieldsOf (RefusedBlamed b) rs = 17 ∷ b ∷ []
+fieldsOf (RefusedBlamedAt i b) rs = 17 ∷ i ∷ b ∷ []
 
 -- "Its fields go into the rest of the lent answer line, after the line number and a tab"
 unfoldable pub answerText : ℕ → Answer → List ℕ → List ℕ

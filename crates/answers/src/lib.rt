@@ -2,17 +2,16 @@
 // current end `at` on. Each `add_` writer answers the new end. A text without room is cut at the line's end; every answer
 // has room in 2,048 bytes (proofs/Fits.antt).
 use rules::Answer;
-ghost use mathlib.Core.Path.{_≡_};
 ghost use mathlib.Core.List.{[], _∷_};
 ghost use Rattle.buffers.specs.Buffers.{Wrote, Added};
 ghost use Rattle.writers.specs.Texts.{fieldsText, partOf};
-ghost use Rattle.answers.specs.AnswerText.{wordOf, fieldsOf, answerText};
+ghost use Rattle.answers.specs.AnswerText.{refusedWord, wordOf, fieldsOf, answerText};
 
-// A word as a number of 32 bits.
-fn wide(word: u16) -> u32
-    ensures { λ r. ⌜ r ≡ word ⌝ }
+// The word of a refusal.
+fn add_refused(out: &mut [u8], at: usize) -> usize
+    ensures { λ r. ⌜ Added refusedWord (now (out .entry)) at (now (out .exit)) r ⌝ }
 {
-    word as u32
+    writers::add_bytes(out, at, b"refused")
 }
 
 // The word of an answer.
@@ -51,13 +50,22 @@ fn add_word(out: &mut [u8], at: usize, a: Answer) -> usize
             return writers::add_bytes(out, at, b"ended");
         }
         Answer::Refused(_r) => {
-            return writers::add_bytes(out, at, b"refused");
+            return add_refused(out, at);
         }
         Answer::RefusedAt {
             number: _r,
             place: _i,
         } => {
-            return writers::add_bytes(out, at, b"refused");
+            return add_refused(out, at);
+        }
+        Answer::RefusedBlamed(_b) => {
+            return add_refused(out, at);
+        }
+        Answer::RefusedBlamedAt {
+            place: _i,
+            blamed: _b,
+        } => {
+            return add_refused(out, at);
         }
     }
 }
@@ -66,7 +74,7 @@ fn add_word(out: &mut [u8], at: usize, a: Answer) -> usize
 fn add_field(out: &mut [u8], at: usize, n: u16) -> usize
     ensures { λ r. ⌜ Added (fieldsText (n ∷ [])) (now (out .entry)) at (now (out .exit)) r ⌝ }
 {
-    writers::add_number(out, at, wide(n))
+    writers::add_number(out, at, writers::wide(n))
 }
 
 // A count, then `words` of the report from `from` on.
@@ -123,6 +131,15 @@ fn add_fields(out: &mut [u8], at: usize, a: Answer, report: &[u16]) -> usize
         Answer::RefusedAt { number, place } => {
             let e = add_field(out, at, number);
             return add_field(out, e, place);
+        }
+        Answer::RefusedBlamed(b) => {
+            let e = add_field(out, at, 17);
+            return add_field(out, e, b);
+        }
+        Answer::RefusedBlamedAt { place, blamed } => {
+            let e = add_field(out, at, 17);
+            let i = add_field(out, e, place);
+            return add_field(out, i, blamed);
         }
     }
 }

@@ -4,11 +4,11 @@ use Prim.Native.Nat.{ℕ, zero, suc, _+_, _*_, _-_, _≤_, _<_}
 use mathlib.Core.Path.{_≡_, refl, sym, ap, subst, _∙_}
 use mathlib.Core.Logic.{_≢_}
 use mathlib.Core.List.{List, [], _∷_}
-use mathlib.Core.Bool.{true, false, not, _&&_}
+use mathlib.Core.Bool.{true, false, _&&_}
 use native.Mathlib.Omega.{arith}
 use native.Mathlib.Nat.{suc-mul}
 use native.Mathlib.Numerals.{add-one}
-use borrow.Author.Tests.{leb-true, le-leb, lt-leb, eq-eqb, ne-eqb}
+use borrow.Author.Tests.{leb-true, le-leb, lt-leb, eq-eqb, ne-eqb, eqb-false}
 use lib.Dec.{leb}
 use lib.ListN.{length, drop, length-append, drop-of-length-le}
 use lib.Seq.{sets, length-sets, drop-cons}
@@ -21,11 +21,10 @@ use Rattle.rules.specs.Sound.{soundTest}
 use Rattle.rules.specs.Refusals.{first, tableRows}
 use Rattle.rules.specs.Steps.{Outcome, raw, step}
 use Rattle.rules.specs.Demands.{Apart, Good}
-use Rattle.rules.proofs.Accepted.{guarded-is}
+use Rattle.rules.proofs.GuardLaws.{guarded-is, guarded-none}
 use Rattle.rules.proofs.Kept.{good-passes, good-step, step-lengths}
-use Rattle.rules.proofs.Order.{guarded-none}
 use Rattle.rules.proofs.Promises.{test-means-sound}
-use Rattle.rules.proofs.RefusalLaws.{first-none, not-is-false}
+use Rattle.rules.proofs.RefusalLaws.{tests-past}
 use Rattle.telling.specs.AnswerWords.{answerWords}
 use Rattle.telling.proofs.AnswerWordLaws.{answerWords-length}
 use Rattle.stepping.specs.declared.Record.{Record}
@@ -67,9 +66,8 @@ module _ (F : Form) (T P n m k : ℕ) where
 module _ (F : Form) (s : Tables) (n m k : ℕ) (e : first (callRows F s n m k) ≡ 0) where
   callRows-none : (hasRoom F (length (s .tasks)) (length (s .promises)) n m k ≡ true) × (soundTest (F .base) s ≡ true)
   callRows-none =
-      let (a, e₁) = first-none 1 (not (hasRoom F (length (s .tasks)) (length (s .promises)) n m k)) _ (λ (z : _≡_ {A = ℕ} 1 0). omega arith) e in
-      let (b, e₂) = first-none 2 (not (soundTest (F .base) s)) _ (λ (z : _≡_ {A = ℕ} 2 0). omega arith) e₁ in
-      (not-is-false (hasRoom F (length (s .tasks)) (length (s .promises)) n m k) a, not-is-false (soundTest (F .base) s) b)
+      let (a, b, z) = tests-past (hasRoom F (length (s .tasks)) (length (s .promises)) n m k) (soundTest (F .base) s) _ (eqb-false 1 0 refl) (eqb-false 2 0 refl) e in
+      (a, b)
 
   pub call-roomy : Roomy F (length (s .tasks)) (length (s .promises)) n m k
   call-roomy = hasRoom-true F (length (s .tasks)) (length (s .promises)) n m k (callRows-none .0)
@@ -103,13 +101,13 @@ module _ (F : Form) (list : List ℕ) (s : Tables) (rs : List Record) (m k : ℕ
 
 module _ (F : Form) (apart : Apart F) (n : ℕ) (list : List ℕ) (s : Tables) (r : Record) (g : Good F n s) where
   pub record-raw : stepRecord F n list s r ≡ rawRecord F list s r
-  record-raw = guarded-none (first (tableRows F n s)) s (rawRecord F list s r) (good-passes F apart n s g)
+  record-raw = guarded-none _ (first (tableRows F n s)) s (rawRecord F list s r) (good-passes F apart n s g)
 
   -- whatever holds of the tables before, and after each step of them
   record-by : (Q : Tables → Type 0) → Q s → Q (step F n s (stepOf list r) .after) → Q (rawRecord F list s r .after)
   record-by Q before after =
-      guarded-is (first (partRows list r)) s (raw F s (stepOf list r)) Q before
-      (λ e. subst (λ (o : Outcome). Q (o .after)) (guarded-none (first (tableRows F n s)) s (raw F s (stepOf list r)) (good-passes F apart n s g)) after)
+      guarded-is _ (first (partRows list r)) s (raw F s (stepOf list r)) Q before
+      (λ e. subst (λ (o : Outcome). Q (o .after)) (guarded-none _ (first (tableRows F n s)) s (raw F s (stepOf list r)) (good-passes F apart n s g)) after)
 
   pub record-good : Good F n (rawRecord F list s r .after)
   record-good = record-by (Good F n) g (good-step F apart n s (stepOf list r) g)

@@ -3,20 +3,19 @@
 use Prim.Native.Nat.{ℕ, zero, suc, _≤_}
 use mathlib.Core.Path.{_≡_, refl, sym, ap, subst, _∙_}
 use mathlib.Core.List.{List, [], _∷_}
-use mathlib.Core.Logic.{_≢_}
-use mathlib.Core.Bool.{Bool}
 use native.Mathlib.Omega.{arith}
 use native.Mathlib.Decide.{ℕ-discrete}
+use borrow.Author.Tests.{eqb-false}
 use lib.ListN.{length, take}
 use Rattle.words.specs.Words.{Form}
 use Rattle.words.proofs.BoolLaws.{clash}
 use Rattle.words.proofs.WordLaws.{inBounds-true, inBounds-of}
 use Rattle.rules.specs.Tables.{Tables}
-use Rattle.rules.specs.Refusals.{first}
 use Rattle.rules.specs.Steps.{Outcome}
-use Rattle.rules.specs.Demands.{Apart, Good, FirstGiven, now, later, NoneGiven, Demand3}
+use Rattle.rules.specs.Demands.{Apart, Good, FirstGiven, NoneGiven, Demand3}
 use Rattle.rules.proofs.Kept.{fresh-good, good-step}
-use Rattle.rules.proofs.Order.{first-given, given-first, none-first}
+use Rattle.rules.proofs.Order.{first-given, given-first, none-first, given-number}
+use Rattle.rules.proofs.RefusalLaws.{Numbered, row, no-row}
 use Rattle.rules.proofs.Promises.{demand-3-of}
 use Rattle.stepping.specs.declared.Record.{Record}
 use Rattle.stepping.specs.Records.{rawRecord, stepRecord}
@@ -28,13 +27,8 @@ use Rattle.batching.proofs.BatchLaws.{why, taken-all, refused-all, call
 
 -- ---- the call
 
--- a number that a row of a call gives is 1 or 2
-second-number : {b : Bool} {q : ℕ} → FirstGiven q ((2, b) ∷ []) → q ≢ 0
-second-number now = λ (z : _≡_ {A = ℕ} 2 0). omega arith
-
-call-number : {a b : Bool} {q : ℕ} → FirstGiven q ((1, a) ∷ (2, b) ∷ []) → q ≢ 0
-call-number now = λ (z : _≡_ {A = ℕ} 1 0). omega arith
-call-number (later g) = second-number g
+call-numbered : (F : Form) (s : Tables) (n m k : ℕ) → Numbered (callRows F s n m k)
+call-numbered F s n m k = row (eqb-false 1 0 refl) (row (eqb-false 2 0 refl) no-row)
 
 module _ (F : Form) (list : List ℕ) (s : Tables) (rs : List Record) (m k : ℕ) where
   -- refused by q exactly when it is the number of the first row that applies: "T or P out of bounds, more than 256 records or too little room is 1 for the call, with nothing
@@ -50,7 +44,7 @@ module _ (F : Form) (list : List ℕ) (s : Tables) (rs : List Record) (m k : ℕ
           first-given (callRows F s (length rs) m k) q (λ (z : q ≡ 0). h (b ∙ z)) b
 
   pub the-first-refuses-the-call : (q : ℕ) → FirstGiven q (callRows F s (length rs) m k) → batched F list s rs m k ≡ refused q s
-  the-first-refuses-the-call q g = refused-all F list s rs m k (λ (z : why F list s rs m k ≡ 0). call-number g (sym (given-first g) ∙ z)) ∙ ap (λ (r : ℕ). refused r s) (given-first g)
+  the-first-refuses-the-call q g = refused-all F list s rs m k (λ (z : why F list s rs m k ≡ 0). given-number (call-numbered F s (length rs) m k) g (sym (given-first g) ∙ z)) ∙ ap (λ (r : ℕ). refused r s) (given-first g)
 
 -- ---- "Tables, answers and words must equal those of the same steps taken one by one, each with a report of its own."
 

@@ -5,7 +5,7 @@ use Rattle.words.specs.Words.{small, sizesInBounds, inBounds}
 use Rattle.words.specs.Lists.{allBelow, is, places, changed}
 use Rattle.rules.specs.Tables.{fresh}
 use Rattle.rules.specs.Sound.{hop, comes, taskPasses, promisePasses, soundTest}
-use Rattle.rules.specs.Answers.{numberOf, valuesOf}
+use Rattle.rules.specs.Answers.{numberOf, valuesOf, refusedWith, refusedAtWith}
 use Rattle.rules.specs.Refusals.{first, differs, entryRefusal, firstBad}
 use Rattle.rules.specs.Steps.{given, awaits, walk, pairs, followed, got, guarded, started}
 use Rattle.telling.specs.AnswerWords.{answerWords}
@@ -14,14 +14,14 @@ use Rattle.batching.specs.Batches.{oneByOne, lastTables, allAnswers, all
 use Rattle.batching.specs.WorkedBatch.{workedList, workedRecords, workedOutcome}
 use Rattle.batching.specs.declared.Called.the-variants.{Refused}
 
-pub worked-batch : batched small workedList (fresh 3 4) workedRecords 130 52 ≡ workedOutcome
-unfolding sizesInBounds inBounds allBelow is places changed hop comes taskPasses promisePasses soundTest numberOf valuesOf first differs entryRefusal firstBad given awaits walk pairs followed got guarded started answerWords stepBy isAsync oneByOne lastTables allAnswers allWords hasRoom called
+pub worked-batch : batched small workedList (fresh 3 4) workedRecords 150 60 ≡ workedOutcome
+unfolding sizesInBounds inBounds allBelow is places changed hop comes taskPasses promisePasses soundTest numberOf valuesOf first differs entryRefusal firstBad given awaits walk pairs followed got guarded started answerWords stepBy isAsync oneByOne lastTables allAnswers allWords hasRoom called refusedWith refusedAtWith
 worked-batch = refl
 
-pub one-word-less : batched small workedList (fresh 3 4) workedRecords 129 52 ≡ record { answer = Refused 1; after = fresh 3 4; words = []; answers = [] }
+pub one-word-less : batched small workedList (fresh 3 4) workedRecords 149 60 ≡ record { answer = Refused 1; after = fresh 3 4; words = []; answers = [] }
 unfolding sizesInBounds first hasRoom called
 one-word-less = refl
 
-pub one-answer-less : batched small workedList (fresh 3 4) workedRecords 130 51 ≡ record { answer = Refused 1; after = fresh 3 4; words = []; answers = [] }
+pub one-answer-less : batched small workedList (fresh 3 4) workedRecords 150 59 ≡ record { answer = Refused 1; after = fresh 3 4; words = []; answers = [] }
 unfolding sizesInBounds first hasRoom called
 one-answer-less = refl

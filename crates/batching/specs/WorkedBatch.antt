@@ -1,5 +1,5 @@
--- The run of 01, "Either side of each edge", its open line left out, as one call, with two records between that are refused by 16. proofs/Worked.antt shows that the definitions
--- give it.
+-- The run of 01, "Either side of each edge", its open line left out, as one call, with two records between that are refused by 16 and two that are refused by 17.
+-- proofs/Worked.antt shows that the definitions give it.
 -- Assumes nothing.
 use Prim.Native.Nat.{ℕ}
 use mathlib.Core.List.{List, [], _∷_}
@@ -29,6 +29,8 @@ workedRecords =
     ∷ recorded Async 0 2 3 0  -- no entries, and still past the list's end
     ∷ recorded End 1 0 0 0
     ∷ recorded Get 0 1 0 0
+    ∷ recorded Set 0 1 0 0  -- blamed on 1
+    ∷ recorded Async 0 2 1 1
     ∷ recorded End 0 9 9 9
     ∷ recorded New 0 2 0 0
     ∷ []
@@ -51,6 +53,8 @@ workedOutcome = record {
       ∷ 16 ∷ 0 ∷ 0 ∷ 0
       ∷ 108 ∷ 1 ∷ 0 ∷ 0
       ∷ 104 ∷ 1 ∷ 0 ∷ 0
+      ∷ 17 ∷ 1 ∷ 0 ∷ 0
+      ∷ 17 ∷ 0 ∷ 1 ∷ 0
       ∷ 108 ∷ 0 ∷ 0 ∷ 0
       ∷ 4 ∷ 0 ∷ 0 ∷ 0
       ∷ [];

@@ -43,6 +43,11 @@ pub fn answer(a: Answer) {
         }
         Answer::Refused(r) => number(r),
         Answer::RefusedAt { number: n, place } => with_value(n, place),
+        Answer::RefusedBlamed(b) => with_value(17, b),
+        Answer::RefusedBlamedAt { place, blamed } => {
+            with_value(17, place);
+            number(blamed);
+        }
     }
 }
 

@@ -1,5 +1,8 @@
-// The refusals that look at one number of a step: each function returns the first that applies, and 0 where none does. They ask nothing of their caller.
+// The refusals that look at one number of a step: each function returns the first that applies, and 0 where none does. They ask nothing of their caller. And the task
+// that refusal 17 tells.
 ghost use mathlib.Core.Path.{_≡_};
+ghost use Prim.Native.Nat.{_-_};
+ghost use lib.ListN.{getD};
 ghost use Rattle.words.specs.Words.{small};
 ghost use Rattle.rules.specs.Refusals.{first, actorRows, childRows, newRows, getRows, ownRows};
 use words::PromiseWord;
@@ -65,7 +68,7 @@ pub fn get_refusal(promises: &[u16], p: u16) -> u16
     0
 }
 
-// Refusals 6, 8, 9 and 10: a promise that only its owner may set or hand on.
+// Refusals 6, 8, 9, 17 and 10: a promise that only its owner may set or hand on.
 pub fn own_refusal(promises: &[u16], t: u16, p: u16) -> u16
     ensures { λ r. ⌜ r ≡ first (ownRows (small .base) (now (promises .entry)) t p) ⌝ }
 {
@@ -81,7 +84,7 @@ pub fn own_refusal(promises: &[u16], t: u16, p: u16) -> u16
         return 9;
     }
     if PromiseWord::FIRST_BLAMED <= w {
-        return 9;
+        return 17;
     }
     if w < PromiseWord::FIRST_OWNED {
         return 10;
@@ -90,4 +93,19 @@ pub fn own_refusal(promises: &[u16], t: u16, p: u16) -> u16
         return 0;
     }
     10
+}
+
+// The task that a promise is blamed on, and 0 where it is not blamed.
+pub fn blamed_task(promises: &[u16], p: u16) -> u16
+    ensures { λ r. ⌜ r ≡ getD (now (promises .entry)) p 0 - small .base ⌝ }
+{
+    let i = p as usize;
+    if promises.len() <= i {
+        return 0;
+    }
+    let w = promises[i];
+    if w < PromiseWord::FIRST_BLAMED {
+        return 0;
+    }
+    w - PromiseWord::FIRST_BLAMED
 }

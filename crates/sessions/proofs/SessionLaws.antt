@@ -6,7 +6,7 @@ use mathlib.Core.List.{List, [], _++_}
 use mathlib.Core.Bool.{Bool, true, false, cond, not}
 use native.Mathlib.Omega.{arith}
 use lib.Dec.{eqb}
-use borrow.Author.Tests.{eq-eqb, ne-eqb}
+use borrow.Author.Tests.{eq-eqb, ne-eqb, eqb-false}
 use lib.ListN.{length, take, drop}
 use lib.Seq.{length-take-le}
 use Rattle.words.specs.Words.{Form, small, sizesInBounds}
@@ -20,7 +20,7 @@ use Rattle.rules.specs.Steps.{Outcome}
 use Rattle.rules.specs.Contracts.{Gives}
 use Rattle.rules.specs.declared.Answer.{Answer}
 use Rattle.rules.specs.declared.Answer.the-variants.{Opened, Refused}
-use Rattle.rules.proofs.RefusalLaws.{first-none, not-is-false}
+use Rattle.rules.proofs.RefusalLaws.{first-past, not-is-false}
 use Rattle.forms.specs.declared.Form.{Form as LineForm}
 use Rattle.forms.specs.declared.Form.the-variants as F
 use Rattle.sessions.specs.declared.Session.{Session}
@@ -41,7 +41,7 @@ inPart-of T P ts ps g = record {
 
 refusal-number : (F : Form) (T P : ℕ) → freshRefusal F T P ≡ 0 → sizesInBounds F T P ≡ true
 unfolding freshRefusal
-refusal-number F T P e = not-is-false (sizesInBounds F T P) (first-none 1 (not (sizesInBounds F T P)) [] (λ (z : _≡_ {A = ℕ} 1 0). omega arith) e .0)
+refusal-number F T P e = not-is-false (sizesInBounds F T P) (first-past 1 (not (sizesInBounds F T P)) [] (eqb-false 1 0 refl) e .0)
 
 -- where an open is not refused, T and P are within their bounds
 pub freshRefusal-none : (T P : ℕ) → freshRefusal small T P ≡ 0 → (T ≤ 64) × (P ≤ 256)

@@ -8,13 +8,13 @@ use lib.Dec.{eqb}
 use borrow.Author.Tests.{eq-eqb}
 use lib.ListN.{take, drop, take-append-drop}
 use Rattle.words.specs.Words.{small}
-use Rattle.words.proofs.BoolLaws.{true-is-not-false, clash}
+use Rattle.words.proofs.BoolLaws.{true-is-not-false}
 use Rattle.words.proofs.ListLaws.{allPass, in-passes}
 use Rattle.rules.specs.Tables.{Tables, tables}
 use Rattle.rules.specs.Answers.{numberOf}
 use Rattle.rules.specs.Sessions.{freshRefusal}
 use Rattle.rules.specs.Steps.{Step, step-new, step-set, step-get, step-async, step-end, Outcome, outcome, step}
-use Rattle.rules.specs.Demands.{paperNumbers, Refusal, plain, placed}
+use Rattle.rules.specs.Demands.{paperNumbers, Refusal}
 use Rattle.rules.specs.declared.Answer.{Answer}
 use Rattle.rules.specs.declared.Answer.the-variants.{Opened, Refused}
 use Rattle.rules.proofs.Promises.{refused-by-a-number-of-its-own, a-number-below-100-refuses, a-refusal-changes-nothing}
@@ -32,10 +32,6 @@ pub record OnlyAnswers (d : Deed) (session : Session) (ts ps : List ℕ) : Type 
   pub tasks-stay : d .tasks ≡ ts
   pub promises-stay : d .promises ≡ ps
   pub no-words : d .words ≡ []
-
-opened-no-refusal : {a : Answer} → Refusal a → a ≡ Opened → ⊥
-opened-no-refusal (plain r) e = clash cc
-opened-no-refusal (placed r i) e = clash cc
 
 refused-unopened : (a : Answer) (ts ps : List ℕ) → OnlyAnswers (refusedBy a Unopened ts ps) Unopened ts ps
 refused-unopened a ts ps = record { session-stays = refl; tasks-stay = refl; promises-stay = refl; no-words = refl }
@@ -55,7 +51,7 @@ unfolding deedOf unopenedDeed openDeed openOutcome
 a-refused-line-only-answers (F.Open T P) vs Unopened ts ps n r = go (eqb (freshRefusal small T P) 0) r
   where
     go : (b : Bool) → let d = cond b (opened T P ts ps) (refusedBy (Refused (freshRefusal small T P)) Unopened ts ps) in Refusal (d .answer) → OnlyAnswers d Unopened ts ps
-    go true r = absurd (opened-no-refusal r refl)
+    go true r = elim r [ ]
     go false r = refused-unopened (Refused (freshRefusal small T P)) ts ps
 a-refused-line-only-answers (F.New t p) vs Unopened ts ps n r = refused-unopened (Refused 15) ts ps
 a-refused-line-only-answers (F.Set t p) vs Unopened ts ps n r = refused-unopened (Refused 15) ts ps

@@ -1,13 +1,16 @@
 // The step set: its owner sets a promise, and every task that waits on it becomes ready.
 ghost use mathlib.Core.Path.{_≡_};
 ghost use mathlib.Core.Bool.{true};
-ghost use lib.ListN.{length};
+ghost use Prim.Native.Nat.{_-_};
+ghost use lib.ListN.{length, getD};
 ghost use Rattle.words.specs.Words.{small, inBounds};
 ghost use Rattle.rules.specs.Tables.{tables as tablesOf};
+ghost use Rattle.rules.specs.Answers.{refusedWith};
 ghost use Rattle.rules.specs.Refusals.{first};
 ghost use Rattle.rules.specs.Steps.{step-set, rows, raw, step};
 ghost use Rattle.rules.specs.Contracts.{Gives};
 use guards::actor_refusal;
+use guards::blamed_task;
 use guards::own_refusal;
 use rules::Answer;
 use sound::table_refusal;
@@ -18,13 +21,24 @@ use tables::replace_word;
 use words::PromiseWord;
 use words::TaskWord;
 
-// Refusals 3, 4, 5, 6, 8, 9 and 10.
+// Refusals 3, 4, 5, 6, 8, 9, 17 and 10.
 fn refusal(tasks: &[u16], promises: &[u16], t: u16, p: u16) -> u16
     ensures { λ r. ⌜ r ≡ first (rows small (tablesOf (now (tasks .entry)) (now (promises .entry))) (step-set t p)) ⌝ }
 {
     let a = actor_refusal(tasks, t);
     let b = own_refusal(promises, t, p);
     earlier(a, b)
+}
+
+// The answer that refuses by `r`: 17 with the task that `p` is blamed on, any other by its number alone.
+fn refused(promises: &[u16], p: u16, r: u16) -> Answer
+    ensures { λ a. ⌜ a ≡ refusedWith (getD (now (promises .entry)) p 0 - small .base) r ⌝ }
+{
+    if r == 17 {
+        let b = blamed_task(promises, p);
+        return Answer::RefusedBlamed(b);
+    }
+    Answer::Refused(r)
 }
 
 // The step without refusals 1 and 2, for a caller that has tested the bounds and the tables.
@@ -40,7 +54,7 @@ pub fn raw_set(
 {
     let r = refusal(tasks, promises, t, p);
     if r != 0 {
-        return Answer::Refused(r);
+        return refused(promises, p, r);
     }
     let w = TaskWord::waits_on(p);
     let n = collect_word(tasks, w, report, 0);

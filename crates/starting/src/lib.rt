@@ -2,14 +2,17 @@
 ghost use mathlib.Core.Path.{_≡_};
 ghost use mathlib.Core.List.{[], _∷_};
 ghost use mathlib.Core.Bool.{true, not};
-ghost use lib.ListN.{length};
+ghost use Prim.Native.Nat.{_-_, _<_};
+ghost use lib.ListN.{length, getD};
 ghost use Rattle.words.specs.Words.{small, inBounds};
 ghost use Rattle.words.specs.Lists.{allBelow};
 ghost use Rattle.rules.specs.Tables.{tables as tablesOf};
+ghost use Rattle.rules.specs.Answers.{refusedAtWith};
 ghost use Rattle.rules.specs.Refusals.{first, differs, entryRefusal, firstBad};
 ghost use Rattle.rules.specs.Steps.{step-async, rows, raw, step, given};
 ghost use Rattle.rules.specs.Contracts.{Gives};
 use guards::actor_refusal;
+use guards::blamed_task;
 use guards::child_refusal;
 use guards::own_refusal;
 use rules::Answer;
@@ -43,7 +46,7 @@ fn again_refusal(list: &[u16], q: u16, k: usize) -> u16
     0
 }
 
-// Refusals 6, 8, 9, 10 and 13 of entry `k` of the list.
+// Refusals 6, 8, 9, 17, 10 and 13 of entry `k` of the list.
 fn entry_refusal(promises: &[u16], t: u16, list: &[u16], k: usize) -> u16
     ensures { λ r. ⌜ r ≡ entryRefusal (small .base) (now (promises .entry)) t (now (list .entry)) k ⌝ }
 {
@@ -65,6 +68,27 @@ fn first_bad(promises: &[u16], t: u16, list: &[u16]) -> usize
         i += 1;
     }
     i
+}
+
+// The answer that refuses for entry `k`, at its place: 17 with the task that the entry is blamed on.
+fn refused_entry(promises: &[u16], t: u16, list: &[u16], k: usize) -> Answer
+    requires { ⌜ k < 65536 ⌝ }
+    ensures { λ a. ⌜ a ≡ refusedAtWith (getD (now (promises .entry)) (getD (now (list .entry)) k 0) 0 - small .base) k (entryRefusal (small .base) (now (promises .entry)) t (now (list .entry)) k) ⌝ }
+{
+    let e = entry_refusal(promises, t, list, k);
+    let place = k as u16;
+    if e == 17 {
+        let entry = at(list, k);
+        let b = blamed_task(promises, entry);
+        return Answer::RefusedBlamedAt {
+            place: place,
+            blamed: b,
+        };
+    }
+    Answer::RefusedAt {
+        number: e,
+        place: place,
+    }
 }
 
 // Each listed promise gets the word `w`.
@@ -97,12 +121,7 @@ pub fn raw_async(
     }
     let k = first_bad(promises, t, list);
     if k < list.len() {
-        let e = entry_refusal(promises, t, list, k);
-        let place = k as u16;
-        return Answer::RefusedAt {
-            number: e,
-            place: place,
-        };
+        return refused_entry(promises, t, list, k);
     }
     put(tasks, c as usize, TaskWord::READY);
     let w = PromiseWord::owned_by(c);

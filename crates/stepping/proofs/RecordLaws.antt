@@ -4,7 +4,7 @@ use mathlib.Core.Path.{_≡_, refl, sym, ap, subst, _∙_}
 use mathlib.Core.List.{List, [], append-nil, append-assoc}
 use mathlib.Core.Bool.{true, false, _&&_}
 use native.Mathlib.Omega.{arith}
-use borrow.Author.Tests.{lt-ltb, le-ltb}
+use borrow.Author.Tests.{lt-ltb, le-ltb, eqb-false}
 use borrow.Rule.Slice.PartMut.{putMid}
 use lib.Dec.{ltb}
 use lib.ListN.{length, take, drop, length-drop, drop-of-length-le}
@@ -21,7 +21,8 @@ use Rattle.rules.specs.Steps.{Step, step-async, Outcome, raw}
 use Rattle.rules.specs.Contracts.{Gives}
 use Rattle.rules.specs.declared.Answer.{Answer}
 use Rattle.rules.specs.declared.Answer.the-variants.{Refused}
-use Rattle.rules.proofs.Counts.{guarded-by, raw-counted, raw-room}
+use Rattle.rules.proofs.GuardLaws.{guarded-by}
+use Rattle.rules.proofs.Counts.{raw-counted, raw-room}
 use Rattle.rules.proofs.GivesLaws.{gives-refused, gives-passed}
 use Rattle.buffers.proofs.BufferLaws.{rest-lent}
 use Rattle.telling.specs.AnswerWords.{answerWords}
@@ -55,11 +56,11 @@ part-not-given list r h = rw (within (r .kind) (length list) (r .start + r .leng
 
 module _ (F : Form) (s : Tables) (list : List ℕ) (r : Record) where
   pub record-refused : (rs : List ℕ) → r .kind ≡ Async → length list < r .start + r .length → Gives (rawRecord F list s r) rs (Refused 16) (s .tasks) (s .promises) rs
-  record-refused rs k h = gives-refused s (raw F s (stepOf list r)) rs (sym (part-given list r k h)) (λ (z : _≡_ {A = ℕ} 16 0). omega arith)
+  record-refused rs k h = gives-refused _ s (raw F s (stepOf list r)) rs (sym (part-given list r k h)) (eqb-false 16 0 refl)
 
   step-taken : {rs ts ps rs′ : List ℕ} {a : Answer} (x : Step) → stepOf list r ≡ x → (r .kind ≡ Async → r .start + r .length ≤ length list) → Gives (raw F s x) rs a ts ps rs′ → Gives (rawRecord F list s r) rs a ts ps rs′
   step-taken {rs} {ts} {ps} {rs′} {a} x e h g =
-      gives-passed s (sym (part-not-given list r h)) refl (subst (λ (y : Step). Gives (raw F s y) rs a ts ps rs′) (sym e) g)
+      gives-passed _ s (sym (part-not-given list r h)) refl (subst (λ (y : Step). Gives (raw F s y) rs a ts ps rs′) (sym e) g)
 
   -- a step x that is no async
   pub record-taken : {rs ts ps rs′ : List ℕ} {a : Answer} (x : Step) → stepOf list r ≡ x → isAsync (r .kind) ≡ false → Gives (raw F s x) rs a ts ps rs′ → Gives (rawRecord F list s r) rs a ts ps rs′
@@ -75,10 +76,10 @@ module _ (F : Form) (s : Tables) (list : List ℕ) (r : Record) where
 module _ (F : Form) (list : List ℕ) (s : Tables) (r : Record) where
   pub record-counted : length (rawRecord F list s r .words) ≡ wordCount (rawRecord F list s r .answer)
   unfolding wordCount
-  record-counted = guarded-by (λ (o : Outcome). length (o .words) ≡ wordCount (o .answer)) _ s _ (λ m. refl) (λ z. raw-counted F s (stepOf list r))
+  record-counted = guarded-by (λ (o : Outcome). length (o .words) ≡ wordCount (o .answer)) _ _ s _ (λ m. refl) (λ z. raw-counted F s (stepOf list r))
 
   pub record-room : length (rawRecord F list s r .words) ≤ length (s .promises) + 2 * length (s .tasks)
-  record-room = guarded-by (λ (o : Outcome). length (o .words) ≤ length (s .promises) + 2 * length (s .tasks)) _ s _ (λ m. omega arith) (λ z. raw-room F s (stepOf list r))
+  record-room = guarded-by (λ (o : Outcome). length (o .words) ≤ length (s .promises) + 2 * length (s .tasks)) _ _ s _ (λ m. omega arith) (λ z. raw-room F s (stepOf list r))
 
 -- ---- a turn
 

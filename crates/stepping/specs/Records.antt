@@ -17,6 +17,7 @@ use lib.ListN.{length, take, drop}
 use lib.Seq.{sets}
 use Rattle.words.specs.Words.{Form}
 use Rattle.rules.specs.Tables.{Tables}
+use Rattle.rules.specs.Answers.{byNumber}
 use Rattle.rules.specs.Refusals.{Row, first, tableRows}
 use Rattle.rules.specs.Steps.{Step, step-new, step-set, step-get, step-async, step-end, Outcome, guarded, raw}
 use Rattle.telling.specs.AnswerWords.{answerWords}
@@ -50,10 +51,10 @@ abbrev pub partRows : List ℕ → Record → List Row
 partRows list r = (16, isAsync (r .kind) && ltb (length list) (r .start + r .length)) ∷ []
 
 abbrev pub rawRecord : Form → List ℕ → Tables → Record → Outcome
-rawRecord F list s r = guarded (first (partRows list r)) s (raw F s (stepOf list r))
+rawRecord F list s r = guarded byNumber (first (partRows list r)) s (raw F s (stepOf list r))
 
 abbrev pub stepRecord : Form → ℕ → List ℕ → Tables → Record → Outcome
-stepRecord F n list s r = guarded (first (tableRows F n s)) s (rawRecord F list s r)
+stepRecord F n list s r = guarded byNumber (first (tableRows F n s)) s (rawRecord F list s r)
 
 -- The words of the outcome o stand in the report from `at` on, its answer stands in the answers after those of i records, and the next step's words begin at `next`.
 pub record Turns (o : Outcome) (at i : ℕ) (rs ws : List ℕ) (next : ℕ) (ts ps rs′ ws′ : List ℕ) : Type 0 where

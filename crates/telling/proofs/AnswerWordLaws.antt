@@ -3,7 +3,7 @@ use mathlib.Core.Path.{_≡_, refl}
 use lib.ListN.{length}
 use Rattle.rules.specs.Answers.{valuesOf}
 use Rattle.rules.specs.declared.Answer.{Answer}
-use Rattle.rules.specs.declared.Answer.the-variants.{Opened, Made, Set, Value, Blamed, Waits, Cycle, Started, Ended, Refused, RefusedAt}
+use Rattle.rules.specs.declared.Answer.the-variants.{Opened, Made, Set, Value, Blamed, Waits, Cycle, Started, Ended, Refused, RefusedAt, RefusedBlamed, RefusedBlamedAt}
 use Rattle.telling.specs.AnswerWords.{answerWords}
 
 pub answerWords-length : (a : Answer) → length (answerWords a) ≡ 4
@@ -19,3 +19,5 @@ answerWords-length Started = refl
 answerWords-length (Ended m n) = refl
 answerWords-length (Refused r) = refl
 answerWords-length (RefusedAt r i) = refl
+answerWords-length (RefusedBlamed b) = refl
+answerWords-length (RefusedBlamedAt i b) = refl

@@ -66,6 +66,14 @@ pub fn tell(answer: &mut [u16], a: Answer) -> u16
             write_words(answer, number, place, 0, 0);
             return number;
         }
+        Answer::RefusedBlamed(b) => {
+            write_words(answer, 17, b, 0, 0);
+            return 17;
+        }
+        Answer::RefusedBlamedAt { place, blamed } => {
+            write_words(answer, 17, place, blamed, 0);
+            return 17;
+        }
     }
 }
 
@@ -87,6 +95,11 @@ pub fn word_count(a: Answer) -> usize
         Answer::RefusedAt {
             number: _,
             place: _,
+        } => 0,
+        Answer::RefusedBlamed(_) => 0,
+        Answer::RefusedBlamedAt {
+            place: _,
+            blamed: _,
         } => 0,
     }
 }

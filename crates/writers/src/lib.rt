@@ -59,7 +59,7 @@ pub fn add_number(out: &mut [u8], at: usize, n: u32) -> usize
 }
 
 // A word as a number of 32 bits.
-fn wide(word: u16) -> u32
+pub fn wide(word: u16) -> u32
     ensures { λ r. ⌜ r ≡ word ⌝ }
 {
     word as u32

@@ -1,7 +1,7 @@
 -- `answers::add_fields` meets its contract: each arm names its answer, and writes that answer's fields, one after another (`added-added`).
 -- Assumes nothing.
 use borrow.Author.Needs.{needs}
-use Rattle.answers.proofs.AnswerLaws.{fieldsText-two, fieldsText-none, fieldsText-append, added-none, added-added}
+use Rattle.answers.proofs.AnswerLaws.{fieldsText-two, fieldsText-three, fieldsText-none, fieldsText-append, added-none, added-added}
 use Rattle.answers.specs.AnswerText.{fieldsOf}
 use Rattle.answers.proofs.add_fields.Statement.{statement}
 use Rattle.answers.proofs.add_fields.Tie as tie
@@ -149,6 +149,41 @@ returns-11 : tie.Need-returns-11
 unfolding fieldsOf
 returns-11 c = rw (c .before .before .before .before .before .before .before .before .before .a7 .given .1, fieldsText-two) (added-added (c .before .before .before .before .before .before .add-field4 .ensures) (c .before .before .add-field5 .ensures))
 
+enum-known-a-8 : tie.Need-enum-known-a-8
+enum-known-a-8 c = search needs
+
+add-field-requires-6 : tie.Need-add-field-requires-6
+add-field-requires-6 c κs = search needs
+
+add-field-requires-7 : tie.Need-add-field-requires-7
+add-field-requires-7 c κs = search needs
+
+same-length-8 : tie.Need-same-length-8
+same-length-8 c = search needs
+
+returns-12 : tie.Need-returns-12
+unfolding fieldsOf
+returns-12 c = rw (c .before .before .before .before .before .before .before .before .before .a8 .given .1, fieldsText-two) (added-added (c .before .before .before .before .before .before .add-field6 .ensures) (c .before .before .add-field7 .ensures))
+
+enum-known-a-9 : tie.Need-enum-known-a-9
+enum-known-a-9 c = search needs
+
+add-field-requires-8 : tie.Need-add-field-requires-8
+add-field-requires-8 c κs = search needs
+
+add-field-requires-9 : tie.Need-add-field-requires-9
+add-field-requires-9 c κs = search needs
+
+add-field-requires-10 : tie.Need-add-field-requires-10
+add-field-requires-10 c κs = search needs
+
+same-length-9 : tie.Need-same-length-9
+same-length-9 c = search needs
+
+returns-13 : tie.Need-returns-13
+unfolding fieldsOf
+returns-13 c = rw (c .before .before .before .before .before .before .before .before .before .before .before .before .before .a9 .given .1, fieldsText-three) (added-added (added-added (c .before .before .before .before .before .before .before .before .before .before .add-field8 .ensures) (c .before .before .before .before .before .before .add-field9 .ensures)) (c .before .before .add-field10 .ensures))
+
 pub add-fields-spec : {M : Type 1} → statement M
 add-fields-spec =
     tie.close
@@ -196,4 +231,15 @@ add-fields-spec =
     add-field-requires-4
     add-field-requires-5
     same-length-7
-    returns-11)
+    returns-11
+    enum-known-a-8
+    add-field-requires-6
+    add-field-requires-7
+    same-length-8
+    returns-12
+    enum-known-a-9
+    add-field-requires-8
+    add-field-requires-9
+    add-field-requires-10
+    same-length-9
+    returns-13)

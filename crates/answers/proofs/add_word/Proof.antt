@@ -152,34 +152,54 @@ returns-9 c = rw (c .before .before .before .before .before .before .a5 .given .
 enum-known-a-6 : tie.Need-enum-known-a-6
 enum-known-a-6 c = search needs
 
-slice-aggregate-add-bytes-10 : tie.Need-slice-aggregate-add-bytes-10
-slice-aggregate-add-bytes-10 c = search needs
-
-add-bytes-requires-10 : tie.Need-add-bytes-requires-10
-add-bytes-requires-10 c κs = search needs
+add-refused-requires : tie.Need-add-refused-requires
+add-refused-requires c κs = search needs
 
 same-length-10 : tie.Need-same-length-10
 same-length-10 c = search needs
 
 returns-10 : tie.Need-returns-10
 unfolding wordOf
-returns-10 c = rw (c .before .before .before .before .before .before .a6 .given .1) (c .before .before .add-bytes10 .ensures)
+returns-10 c = rw (c .before .before .before .before .before .a6 .given .1) (c .before .before .add-refused .ensures)
 
 enum-known-a-7 : tie.Need-enum-known-a-7
 enum-known-a-7 c = search needs
 
-slice-aggregate-add-bytes-11 : tie.Need-slice-aggregate-add-bytes-11
-slice-aggregate-add-bytes-11 c = search needs
-
-add-bytes-requires-11 : tie.Need-add-bytes-requires-11
-add-bytes-requires-11 c κs = search needs
+add-refused-requires-2 : tie.Need-add-refused-requires-2
+add-refused-requires-2 c κs = search needs
 
 same-length-11 : tie.Need-same-length-11
 same-length-11 c = search needs
 
 returns-11 : tie.Need-returns-11
 unfolding wordOf
-returns-11 c = rw (c .before .before .before .before .before .before .a7 .given .1) (c .before .before .add-bytes11 .ensures)
+returns-11 c = rw (c .before .before .before .before .before .a7 .given .1) (c .before .before .add-refused2 .ensures)
+
+enum-known-a-8 : tie.Need-enum-known-a-8
+enum-known-a-8 c = search needs
+
+add-refused-requires-3 : tie.Need-add-refused-requires-3
+add-refused-requires-3 c κs = search needs
+
+same-length-12 : tie.Need-same-length-12
+same-length-12 c = search needs
+
+returns-12 : tie.Need-returns-12
+unfolding wordOf
+returns-12 c = rw (c .before .before .before .before .before .a8 .given .1) (c .before .before .add-refused3 .ensures)
+
+enum-known-a-9 : tie.Need-enum-known-a-9
+enum-known-a-9 c = search needs
+
+add-refused-requires-4 : tie.Need-add-refused-requires-4
+add-refused-requires-4 c κs = search needs
+
+same-length-13 : tie.Need-same-length-13
+same-length-13 c = search needs
+
+returns-13 : tie.Need-returns-13
+unfolding wordOf
+returns-13 c = rw (c .before .before .before .before .before .a9 .given .1) (c .before .before .add-refused4 .ensures)
 
 pub add-word-spec : {M : Type 1} → statement M
 add-word-spec =
@@ -231,12 +251,18 @@ add-word-spec =
     same-length-9
     returns-9
     enum-known-a-6
-    slice-aggregate-add-bytes-10
-    add-bytes-requires-10
+    add-refused-requires
     same-length-10
     returns-10
     enum-known-a-7
-    slice-aggregate-add-bytes-11
-    add-bytes-requires-11
+    add-refused-requires-2
     same-length-11
-    returns-11)
+    returns-11
+    enum-known-a-8
+    add-refused-requires-3
+    same-length-12
+    returns-12
+    enum-known-a-9
+    add-refused-requires-4
+    same-length-13
+    returns-13)

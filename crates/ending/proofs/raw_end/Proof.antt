@@ -29,7 +29,7 @@ returns : tie.Need-returns
 returns c =
     let asked = c .before in
     let start = asked .before .before .before .before .before in
-    gives-refused (tables (start .args .tasks .now) (start .args .promises .now)) _ _ (asked .actor-refusal .ensures) (c .if1 .taken)
+    gives-refused _ (tables (start .args .tasks .now) (start .args .promises .now)) _ _ (asked .actor-refusal .ensures) (c .if1 .taken)
 
 owned-by-requires : tie.Need-owned-by-requires
 owned-by-requires c κs =
@@ -127,7 +127,7 @@ returns-2 c =
     let omitted = places (is v) 0 (a .promises .now) in
     let woken = places (awaits (a .promises .now) v) 0 (a .tasks .now) in
     let room : length omitted + length woken ≤ length (a .report .now) = omega (arith, b .room, places-length (is v) 0 (a .promises .now), places-length (awaits (a .promises .now) v) 0 (a .tasks .now)) in
-    gives-passed (tables (a .tasks .now) (a .promises .now)) (asked .actor-refusal .ensures) (passed .if1 .left)
+    gives-passed _ (tables (a .tasks .now) (a .promises .now)) (asked .actor-refusal .ensures) (passed .if1 .left)
     (rw (← word .owned-by .ensures)
     (record {
       answer = ap₂ Ended (omega (arith, w .0)) (omega (arith, w .0, x .0));

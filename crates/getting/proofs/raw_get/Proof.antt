@@ -24,7 +24,7 @@ same-length-2 c = search needs
 returns : tie.Need-returns
 returns c =
     let a = c .before .before .before .before .before .before .before .args in
-    gives-refused (tables (a .tasks .now) (a .promises .now)) _ _ (c .before .refusal .ensures) (c .if1 .taken)
+    gives-refused _ (tables (a .tasks .now) (a .promises .now)) _ _ (c .before .refusal .ensures) (c .if1 .taken)
 
 get-made-requires : tie.Need-get-made-requires
 get-made-requires c κs =
@@ -45,7 +45,7 @@ same-length-5 c = search needs
 returns-2 : tie.Need-returns-2
 returns-2 c =
     let a = c .before .before .before .before .before .before .before .before .before .before .before .before .before .before .before .before .before .args in
-    gives-passed (tables (a .tasks .now) (a .promises .now)) (c .before .before .before .before .before .before .before .before .before .before .before .refusal .ensures) (c .before .before .before .before .before .before .before .before .before .before .if1 .left) (c .before .before .before .before .before .before .get-made .ensures)
+    gives-passed _ (tables (a .tasks .now) (a .promises .now)) (c .before .before .before .before .before .before .before .before .before .before .before .refusal .ensures) (c .before .before .before .before .before .before .before .before .before .before .if1 .left) (c .before .before .before .before .before .before .get-made .ensures)
 
 pub raw-get-spec : {M : Type 1} → statement M
 raw-get-spec =

@@ -20,7 +20,7 @@ same-length-2 c = search needs
 returns : tie.Need-returns
 returns c =
     let a = c .before .before .before .before .before .before .before .args in
-    gives-refused (tables (a .tasks .now) (a .promises .now)) _ _ (c .before .table-refusal .ensures) (c .if1 .taken)
+    gives-refused _ (tables (a .tasks .now) (a .promises .now)) _ _ (c .before .table-refusal .ensures) (c .if1 .taken)
 
 raw-get-requires : tie.Need-raw-get-requires
 raw-get-requires c κs =
@@ -39,7 +39,7 @@ same-length-5 c = search needs
 returns-2 : tie.Need-returns-2
 returns-2 c =
     let a = c .before .before .before .before .before .before .before .before .before .before .before .before .before .before .before .before .before .args in
-    gives-passed (tables (a .tasks .now) (a .promises .now)) (c .before .before .before .before .before .before .before .before .before .before .before .table-refusal .ensures) (c .before .before .before .before .before .before .before .before .before .before .if1 .left) (c .before .before .before .before .before .before .raw-get .ensures)
+    gives-passed _ (tables (a .tasks .now) (a .promises .now)) (c .before .before .before .before .before .before .before .before .before .before .before .table-refusal .ensures) (c .before .before .before .before .before .before .before .before .before .before .if1 .left) (c .before .before .before .before .before .before .raw-get .ensures)
 
 pub step-get-spec : {M : Type 1} → statement M
 step-get-spec =

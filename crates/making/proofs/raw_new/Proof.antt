@@ -26,7 +26,7 @@ returns : tie.Need-returns
 returns c =
     let asked = c .before in
     let start = asked .before .before .before .before .before .before in
-    gives-refused (tables (start .args .tasks .now) (start .args .promises .now)) _ _ (asked .refusal .ensures) (c .if1 .taken)
+    gives-refused _ (tables (start .args .tasks .now) (start .args .promises .now)) _ _ (asked .refusal .ensures) (c .if1 .taken)
 
 owned-by-requires : tie.Need-owned-by-requires
 owned-by-requires c κs =
@@ -53,7 +53,7 @@ returns-2 c =
     let passed = word .before in
     let asked = passed .before in
     let start = asked .before .before .before .before .before .before in
-    gives-passed (tables (start .args .tasks .now) (start .args .promises .now)) (asked .refusal .ensures) (passed .if1 .left)
+    gives-passed _ (tables (start .args .tasks .now) (start .args .promises .now)) (asked .refusal .ensures) (passed .if1 .left)
     (record { answer = refl; tasks = refl; promises = rw (← word .owned-by .ensures) (stored .put .ensures); report = sym (over-none _) })
 
 pub raw-new-spec : {M : Type 1} → statement M

@@ -21,6 +21,9 @@ use Rattle.setting.proofs.raw_set.Tie as tie
 refusal-requires : tie.Need-refusal-requires
 refusal-requires c κs = search needs
 
+refused-requires : tie.Need-refused-requires
+refused-requires c κs = search needs
+
 same-length : tie.Need-same-length
 same-length c = search needs
 
@@ -29,9 +32,10 @@ same-length-2 c = search needs
 
 returns : tie.Need-returns
 returns c =
-    let asked = c .before in
+    let stopped = c .before .before in
+    let asked = stopped .before in
     let start = asked .before .before .before .before .before .before in
-    gives-refused (tables (start .args .tasks .now) (start .args .promises .now)) _ _ (asked .refusal .ensures) (c .if1 .taken)
+    rw (c .refused .ensures) (gives-refused _ (tables (start .args .tasks .now) (start .args .promises .now)) _ _ (asked .refusal .ensures) (stopped .if1 .taken))
 
 waits-on-requires : tie.Need-waits-on-requires
 waits-on-requires c κs =
@@ -86,7 +90,7 @@ returns-2 c =
     let b = inBounds-true small (length (a .tasks .now)) (length (a .promises .now)) (length (a .report .now)) (start .pre) in
     let woken = places (is (word .waits-on .result)) 0 (a .tasks .now) in
     let room : length woken ≤ length (a .report .now) = omega (arith, b .room, places-length (is (word .waits-on .result)) 0 (a .tasks .now)) in
-    gives-passed (tables (a .tasks .now) (a .promises .now)) (asked .refusal .ensures) (passed .if1 .left)
+    gives-passed _ (tables (a .tasks .now) (a .promises .now)) (asked .refusal .ensures) (passed .if1 .left)
     (rw (← word .waits-on .ensures)
     (record {
       answer = ap Set (omega (arith, found .collect-word .ensures .0));
@@ -100,6 +104,7 @@ raw-set-spec =
     tie.close
     (tie.spec
     refusal-requires
+    refused-requires
     same-length
     same-length-2
     returns

@@ -30,17 +30,14 @@ returns : tie.Need-returns
 returns c =
     let asked = c .before in
     let start = asked .before .before .before .before .before .before .before in
-    gives-refused (tables (start .args .tasks .now) (start .args .promises .now)) _ _ (asked .refusal .ensures) (c .if1 .taken)
+    gives-refused _ (tables (start .args .tasks .now) (start .args .promises .now)) _ _ (asked .refusal .ensures) (c .if1 .taken)
 
 first-bad-requires : tie.Need-first-bad-requires
 first-bad-requires c κs = search needs
 
-entry-refusal-requires : tie.Need-entry-refusal-requires
-entry-refusal-requires c κs = search needs
-
-cast-place : tie.Need-cast-place
-cast-place c =
-    let looked = c .before .before .before in
+refused-entry-requires : tie.Need-refused-entry-requires
+refused-entry-requires c κs =
+    let looked = c .before .before in
     let start = looked .before .before .before .before .before .before .before .before .before .before in
     let a = start .args in
     let b = inBounds-true small (length (a .tasks .now)) (length (a .promises .now)) (length (a .report .now)) (start .pre) in
@@ -60,8 +57,8 @@ returns-2 c =
     let passed = looked .before .before in
     let asked = passed .before in
     let start = asked .before .before .before .before .before .before .before in
-    gives-passed (tables (start .args .tasks .now) (start .args .promises .now)) (asked .refusal .ensures) (passed .if1 .left)
-    (rw (← looked .first-bad .ensures, lt-ltb _ (length (start .args .list .now)) (bad .if2 .taken), ← c .entry-refusal .ensures) (record { answer = refl; tasks = refl; promises = refl; report = sym (over-none _) }))
+    gives-passed _ (tables (start .args .tasks .now) (start .args .promises .now)) (asked .refusal .ensures) (passed .if1 .left)
+    (rw (← looked .first-bad .ensures, lt-ltb _ (length (start .args .list .now)) (bad .if2 .taken)) (record { answer = c .refused-entry .ensures; tasks = refl; promises = refl; report = sym (over-none _) }))
 
 put-requires : tie.Need-put-requires
 put-requires c κs = search needs
@@ -96,7 +93,7 @@ returns-3 c =
     let passed = looked .before .before in
     let asked = passed .before in
     let start = asked .before .before .before .before .before .before .before in
-    gives-passed (tables (start .args .tasks .now) (start .args .promises .now)) (asked .refusal .ensures) (passed .if1 .left)
+    gives-passed _ (tables (start .args .tasks .now) (start .args .promises .now)) (asked .refusal .ensures) (passed .if1 .left)
     (rw (← looked .first-bad .ensures, le-ltb _ _ (good .if2 .left), ← word .owned-by .ensures)
     (record { answer = refl; tasks = stored .put .ensures; promises = gave .give .ensures; report = sym (over-none _) }))
 
@@ -109,8 +106,7 @@ raw-async-spec =
     same-length-2
     returns
     first-bad-requires
-    entry-refusal-requires
-    cast-place
+    refused-entry-requires
     same-length-3
     same-length-4
     returns-2

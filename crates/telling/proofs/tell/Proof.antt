@@ -148,6 +148,32 @@ returns-11 : tie.Need-returns-11
 unfolding numberOf answerWords valuesOf
 returns-11 c = rw (c .before .before .before .before .before .a7 .given .1) (refl, c .before .before .write-words11 .ensures)
 
+enum-known-a-8 : tie.Need-enum-known-a-8
+enum-known-a-8 c = search needs
+
+write-words-requires-12 : tie.Need-write-words-requires-12
+write-words-requires-12 c κs = search needs
+
+same-length-12 : tie.Need-same-length-12
+same-length-12 c = search needs
+
+returns-12 : tie.Need-returns-12
+unfolding numberOf answerWords valuesOf
+returns-12 c = rw (c .before .before .before .before .before .a8 .given .1) (refl, c .before .before .write-words12 .ensures)
+
+enum-known-a-9 : tie.Need-enum-known-a-9
+enum-known-a-9 c = search needs
+
+write-words-requires-13 : tie.Need-write-words-requires-13
+write-words-requires-13 c κs = search needs
+
+same-length-13 : tie.Need-same-length-13
+same-length-13 c = search needs
+
+returns-13 : tie.Need-returns-13
+unfolding numberOf answerWords valuesOf
+returns-13 c = rw (c .before .before .before .before .before .a9 .given .1) (refl, c .before .before .write-words13 .ensures)
+
 pub tell-spec : {M : Type 1} → statement M
 tell-spec =
     tie.close
@@ -195,4 +221,12 @@ tell-spec =
     enum-known-a-7
     write-words-requires-11
     same-length-11
-    returns-11)
+    returns-11
+    enum-known-a-8
+    write-words-requires-12
+    same-length-12
+    returns-12
+    enum-known-a-9
+    write-words-requires-13
+    same-length-13
+    returns-13)

@@ -55,6 +55,12 @@ enum-told-7 c = search needs
 enum-told-8 : tie.Need-enum-told-8
 enum-told-8 c = search needs
 
+enum-told-9 : tie.Need-enum-told-9
+enum-told-9 c = search needs
+
+enum-told-10 : tie.Need-enum-told-10
+enum-told-10 c = search needs
+
 returns : tie.Need-returns
 unfolding wordCount
 returns c = search needs
@@ -99,6 +105,14 @@ returns-11 : tie.Need-returns-11
 unfolding wordCount
 returns-11 c = search needs
 
+returns-12 : tie.Need-returns-12
+unfolding wordCount
+returns-12 c = search needs
+
+returns-13 : tie.Need-returns-13
+unfolding wordCount
+returns-13 c = search needs
+
 pub word-count-spec : {M : Type 1} → statement M
 word-count-spec =
     tie.close
@@ -120,6 +134,8 @@ word-count-spec =
     add-result
     enum-told-7
     enum-told-8
+    enum-told-9
+    enum-told-10
     returns
     returns-2
     returns-3
@@ -130,4 +146,6 @@ word-count-spec =
     returns-8
     returns-9
     returns-10
-    returns-11)
+    returns-11
+    returns-12
+    returns-13)
