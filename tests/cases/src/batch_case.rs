@@ -1,8 +1,8 @@
 //! A batch as a case: the words lent to one call, and how two subjects differ on it.
 
+use crate::answer_names::{answer_name, names_of, BLAMED_NAMES};
 use crate::case::{differing_words, lent_words, Reply};
-use model::batch::{ANSWER_WORDS, RECORD_WORDS};
-use model::Answer;
+use model::batch::{ANSWER_WORDS, ASYNC, RECORD_WORDS};
 
 /// The words that are lent to a batch.
 #[derive(Clone, PartialEq, Eq, Debug, Default)]
@@ -67,9 +67,11 @@ impl BatchCase {
         self.steps.len() / RECORD_WORDS
     }
 
-    /// The numbers of the answers after a call that was carried out.
-    pub fn answer_numbers(&self) -> impl Iterator<Item = u16> + '_ {
-        self.answers.chunks(ANSWER_WORDS).take(self.records()).map(|answer| answer[0])
+    /// How a tally calls the answers after a call that was carried out.
+    pub fn answer_names(&self) -> impl Iterator<Item = String> + '_ {
+        let answers = self.answers.chunks(ANSWER_WORDS).filter_map(|answer| answer.try_into().ok());
+        let kinds = self.steps.iter().step_by(RECORD_WORDS);
+        kinds.zip(answers).flat_map(|(&kind, answer)| names_of(answer, kind == ASYNC))
     }
 
     pub fn describe(&self) -> String {
@@ -101,16 +103,8 @@ pub fn call_name(number: u16) -> String {
     }
 }
 
-/// How a tally calls a step's answer of this number.
-pub fn answer_name(number: u16) -> String {
-    match number {
-        101..=108 => Answer::name(number).to_string(),
-        _ => format!("refused {number:02}"),
-    }
-}
-
 /// What must be seen of batches: each way a call can go, and each answer a step in one can get.
 pub fn expected_names() -> impl Iterator<Item = String> {
-    let answers = (3..=13).chain([16]).chain(101..=108).map(answer_name);
-    (0..=2).map(call_name).chain(answers)
+    let answers = (3..=13).chain([16, 17]).chain(101..=108).map(answer_name);
+    (0..=2).map(call_name).chain(answers).chain(BLAMED_NAMES.iter().map(|name| name.to_string()))
 }

@@ -2,6 +2,7 @@
 
 use crate::batch_case::BatchCase;
 use crate::batch_writer::{passing, Writer};
+use crate::blamed::{actor, blamed_step, blamed_tables};
 use crate::damage::{damage, ring};
 use crate::random::Random;
 use crate::sound::{chain, owned_by, random_tables, Words, READY};
@@ -11,7 +12,7 @@ use model::{Model, Step};
 
 type Family = (&'static str, fn(&mut Random) -> BatchCase);
 
-const FAMILIES: [Family; 16] = [
+const FAMILIES: [Family; 18] = [
     ("walk", walk),
     ("walk", walk),
     ("walk", walk),
@@ -22,6 +23,8 @@ const FAMILIES: [Family; 16] = [
     ("rings", rings),
     ("parts", parts),
     ("parts", parts),
+    ("blamed", blamed),
+    ("blamed", blamed),
     ("damaged tables", damaged_tables),
     ("ring standing", ring_standing),
     ("bounds", bounds),
@@ -121,6 +124,30 @@ fn rings(r: &mut Random) -> BatchCase {
         }
     }
     writer.lend(r, chain.words)
+}
+
+/// Sets and asyncs on promises that are blamed from the start or by an end within the call.
+fn blamed(r: &mut Random) -> BatchCase {
+    let words = blamed_tables(r);
+    let mut now = words.clone();
+    let mut report = vec![0; now.promises.len() + 2 * now.tasks.len()];
+    let mut writer = Writer::default();
+    let taste = Taste::any(r);
+    for _ in 0..1 + r.below(14) {
+        let step = match r.below(10) {
+            0 | 1 => Step::End { t: actor(r, &now.tasks, &now.promises) },
+            2 => choose(r, taste, &now.tasks, &now.promises),
+            _ => blamed_step(r, &now.tasks, &now.promises),
+        };
+        if let Step::Async { t, c, .. } = step {
+            if r.once_in(4) {
+                writer.add_passing(t, c);
+            }
+        }
+        Model::PAPER.step(&step, &mut now.tasks, &mut now.promises, &mut report);
+        writer.add(r, &step);
+    }
+    writer.lend(r, words)
 }
 
 /// Asyncs of one task that owns everything, over one list, with parts in it, at its end and past it.

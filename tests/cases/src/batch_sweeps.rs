@@ -1,6 +1,7 @@
 //! Sweeps of batches: cases that go through every edge of a call, and pairs of steps, in order.
 
 use crate::batch_case::BatchCase;
+use crate::blamed_sweeps;
 use crate::part_sweeps;
 use crate::room_sweeps;
 use crate::sound::{blamed_on, owned_by, waits_on, Words, ENDED, READY, SET};
@@ -18,6 +19,8 @@ pub type Record = [u16; RECORD_WORDS];
 /// Every sweep.
 pub fn sweep_batches(visit: &mut Visit) -> ControlFlow<()> {
     sweep_short_batches(visit)?;
+    blamed_sweeps::mixed_batches(visit)?;
+    blamed_sweeps::places_in_parts(visit)?;
     room_sweeps::too_many_records(visit)?;
     room_sweeps::full_batches(visit)?;
     part_sweeps::parts(visit)?;
@@ -35,6 +38,7 @@ pub fn sweep_short_batches(visit: &mut Visit) -> ControlFlow<()> {
     room_sweeps::rooms(visit)?;
     damages(visit)?;
     pairs(visit)?;
+    blamed_sweeps::blamed_within(visit)?;
     part_sweeps::long_lists(visit)
 }
 
@@ -72,8 +76,8 @@ fn rich_tables() -> Words {
 }
 
 /// Records that get every answer and every refusal of a step from the rich tables and this list.
-const RICH_LIST: [u16; 6] = [0, 7, 0, 1, 5, 3];
-const RICH: [Record; 31] = [
+const RICH_LIST: [u16; 8] = [0, 7, 0, 1, 5, 3, 7, 4];
+const RICH: [Record; 36] = [
     [NEW, 0, 5, 0, 0],
     [NEW, 1, 5, 9, 9],
     [NEW, 0, 8, 0, 0],
@@ -86,6 +90,8 @@ const RICH: [Record; 31] = [
     [PUT, 2, 2, 0, 0],
     [PUT, 0, 1, 0, 0],
     [PUT, 0, 3, 0, 0],
+    [PUT, 0, 4, 0, 0],
+    [PUT, 1, 4, 0, 0],
     [PUT, 0, 5, 0, 0],
     [GET, 0, 0, 0, 0],
     [GET, 0, 6, 0, 0],
@@ -96,13 +102,16 @@ const RICH: [Record; 31] = [
     [GET, 4, 4, 0, 0],
     [ASYNC, 0, 5, 0, 2],
     [ASYNC, 0, 5, 0, 3],
-    [ASYNC, 0, 5, 6, 0],
+    [ASYNC, 0, 5, 8, 0],
     [ASYNC, 0, 4, 0, 1],
     [ASYNC, 0, 7, 0, 1],
     [ASYNC, 0, 5, 2, 4],
     [ASYNC, 0, 5, 5, 1],
-    [ASYNC, 0, 5, 1, 6],
-    [ASYNC, 2, 5, 7, 0],
+    [ASYNC, 0, 5, 6, 2],
+    [ASYNC, 1, 5, 7, 1],
+    [ASYNC, 2, 5, 7, 1],
+    [ASYNC, 0, 5, 1, 8],
+    [ASYNC, 2, 5, 9, 0],
     [END, 0, 9, 0, 0],
     [END, 1, 0, 65535, 65535],
 ];
@@ -203,7 +212,7 @@ fn every_kind(visit: &mut Visit) -> ControlFlow<()> {
 fn every_number(visit: &mut Visit) -> ControlFlow<()> {
     let words = rich_tables();
     for n in (0..=u16::MAX).filter(|&n| worth_a_look(n)) {
-        let promises = [[GET, 0, n, 0, 0], [PUT, 1, n, 0, 0], [NEW, 0, n, 0, 0], [ASYNC, 0, 5, 6, 1]];
+        let promises = [[GET, 0, n, 0, 0], [PUT, 1, n, 0, 0], [NEW, 0, n, 0, 0], [ASYNC, 0, 5, 8, 1]];
         let tasks = [[GET, n, 3, 0, 0], [END, n, 0, 0, 0], [ASYNC, n, 5, 0, 1], [ASYNC, 0, n, 3, 0]];
         let parts = [[ASYNC, 0, 4, n, 0], [ASYNC, 0, 4, n, 1], [ASYNC, 0, 4, 0, n], [ASYNC, 0, 4, 2, n]];
         let unused = [[NEW, 0, 5, n, 0], [GET, 1, 5, 0, n], [PUT, 0, 5, n, n], [END, 1, n, n, n]];

@@ -56,12 +56,12 @@ pub enum Difference {
 }
 
 /// Takes the case's steps with both subjects, each on its own words.
-/// `seen` is told the number each step gave by the expected subject.
+/// `seen` is told each step, the number it gave by the expected subject and the words that left.
 pub fn difference(
     case: &Case,
     expected: &mut dyn Subject,
     found: &mut dyn Subject,
-    seen: &mut dyn FnMut(u16),
+    seen: &mut dyn FnMut(&Step, u16, &Lent),
 ) -> Option<Difference> {
     let mut left = case.lent.clone();
     let mut right = case.lent.clone();
@@ -75,7 +75,7 @@ pub fn difference(
         }
         let left_reply = expected.step(step, &mut left);
         let right_reply = found.step(step, &mut right);
-        seen(left_reply.number);
+        seen(step, left_reply.number, &left);
         if left_reply != right_reply || left != right {
             return Some(Difference::Step { index, expected: (left_reply, left), found: (right_reply, right) });
         }

@@ -1,5 +1,6 @@
 //! Families of random cases. A case is known by its seed alone.
 
+use crate::blamed::{blamed_promises, blamed_step, blamed_tables, put_blamed};
 use crate::case::{Case, Lent};
 use crate::damage::{damage, ring};
 use crate::random::Random;
@@ -9,7 +10,7 @@ use model::{Model, Step};
 
 type Family = (&'static str, fn(&mut Random) -> Case);
 
-const FAMILIES: [Family; 10] = [
+const FAMILIES: [Family; 11] = [
     ("walk", walk),
     ("walk", walk),
     ("sound tables", sound_tables),
@@ -18,6 +19,7 @@ const FAMILIES: [Family; 10] = [
     ("chain", chain_tables),
     ("bounds", bounds),
     ("list", list),
+    ("blamed", blamed),
     ("wild words", wild_words),
     ("small words", small_words),
 ];
@@ -178,10 +180,18 @@ fn list(r: &mut Random) -> Case {
         0 => list.resize(65536 + list.len(), r.pick_any(&list).unwrap_or(0)),
         1..=5 => list.push(r.pick_any(&list).unwrap_or(0)),
         6..=35 => spoil(r, &mut list, promises),
+        36..=41 => put_blamed(r, &mut list, &blamed_promises(&words.promises), promises),
         _ => {}
     }
     let child = if r.once_in(12) { r.number(tasks) } else { c as u16 };
     one_step(r, words, Step::Async { t: t as u16, c: child, list })
+}
+
+/// A few sets and asyncs on blamed promises.
+fn blamed(r: &mut Random) -> Case {
+    let words = blamed_tables(r);
+    let steps = (0..1 + r.below(4)).map(|_| blamed_step(r, &words.tasks, &words.promises)).collect();
+    Case { lent: lend(r, words), steps }
 }
 
 /// Words of every kind, with no thought of soundness.

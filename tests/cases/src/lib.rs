@@ -1,11 +1,14 @@
 //! Cases for the registry: made at random and in sweeps, compared and shrunk.
 
+pub mod answer_names;
 pub mod bad_lines;
 pub mod batch_case;
 pub mod batch_families;
 pub mod batch_model;
 pub mod batch_sweeps;
 pub mod batch_writer;
+pub mod blamed;
+pub mod blamed_sweeps;
 pub mod case;
 pub mod column_sweeps;
 pub mod damage;

@@ -59,7 +59,11 @@ impl Subject for ModelSubject {
         if self.model.twist == Twist::EndBlamesHanded {
             self.blame_handed(step, answer[0], &mut lent.promises);
         }
-        Reply { number: answer[0], strayed: false }
+        let number = match (self.model.twist, answer[0]) {
+            (Twist::BlamedReturnsNine, 17) => 9,
+            (_, number) => number,
+        };
+        Reply { number, strayed: false }
     }
 
     fn is_sound(&mut self, tasks: &[u16], promises: &[u16]) -> u8 {

@@ -1,5 +1,6 @@
 //! Steps chosen to fit the tables, so that long walks of accepted steps come about.
 
+use crate::blamed::put_blamed;
 use crate::random::Random;
 use model::{Model, Promise, Step, Tables, Task};
 
@@ -65,6 +66,7 @@ fn fitting(r: &mut Random, taste: Taste, tables: &Tables) -> Step {
     let owned = Promise::Owned(t as usize);
     match kind {
         0 => Step::New { t, p: promise(r, &|&p| p == Promise::NeverMade) },
+        1 if r.once_in(8) => Step::Set { t, p: promise(r, &|&p| matches!(p, Promise::Blamed(_))) },
         1 => Step::Set { t, p: promise(r, &|&p| p == owned) },
         2 if r.once_in(4) => Step::Get { t, p: promise(r, &|&p| p != Promise::NeverMade) },
         2 => Step::Get { t, p: promise(r, &|&p| matches!(p, Promise::Owned(_)) && p != owned) },
@@ -97,7 +99,15 @@ fn start(r: &mut Random, tables: &Tables, t: u16) -> Step {
     if r.once_in(6) {
         spoil(r, &mut list, tables.promises.len());
     }
+    if r.once_in(8) {
+        put_blamed(r, &mut list, &blamed_promises(tables), tables.promises.len());
+    }
     Step::Async { t, c, list }
+}
+
+fn blamed_promises(tables: &Tables) -> Vec<u16> {
+    let is_blamed = |&p: &usize| matches!(tables.promises[p], Promise::Blamed(_));
+    (0..tables.promises.len()).filter(is_blamed).map(|p| p as u16).collect()
 }
 
 /// Puts a repeated or a foreign entry somewhere into the list, maybe more than one.

@@ -1,5 +1,6 @@
 //! Sweeps: cases that go through every value, place or length in order.
 
+use crate::blamed_sweeps;
 use crate::case::{Case, Lent};
 use crate::damage::ring;
 use crate::random::Random;
@@ -13,6 +14,8 @@ pub type Visit<'a> = dyn FnMut(&'static str, Case) -> ControlFlow<()> + 'a;
 /// Every sweep.
 pub fn sweep_all(visit: &mut Visit) -> ControlFlow<()> {
     sweep_short(visit)?;
+    blamed_sweeps::every_blamed(visit)?;
+    blamed_sweeps::every_place(visit)?;
     rings(visit)?;
     long_lists(visit)?;
     tiny_tables(visit)?;
@@ -24,7 +27,8 @@ pub fn sweep_all(visit: &mut Visit) -> ControlFlow<()> {
 /// The first sweeps, short enough for a slow checker.
 pub fn sweep_short(visit: &mut Visit) -> ControlFlow<()> {
     bounds(visit)?;
-    lists(visit)
+    lists(visit)?;
+    blamed_sweeps::mixed_steps(visit)
 }
 
 fn lent(words: Words, report: usize, answer: usize) -> Lent {
@@ -33,7 +37,7 @@ fn lent(words: Words, report: usize, answer: usize) -> Lent {
 }
 
 /// One step with a report two words longer than it need be.
-fn case(words: &Words, step: Step) -> Case {
+pub(crate) fn case(words: &Words, step: Step) -> Case {
     let report = words.promises.len() + 2 * words.tasks.len() + 2;
     Case { lent: lent(words.clone(), report, 4), steps: vec![step] }
 }
@@ -155,7 +159,7 @@ fn long_lists(visit: &mut Visit) -> ControlFlow<()> {
 }
 
 /// Every table of `length` words taken from `choices`.
-fn every_table(length: usize, choices: &[u16]) -> Vec<Vec<u16>> {
+pub(crate) fn every_table(length: usize, choices: &[u16]) -> Vec<Vec<u16>> {
     (0..length).fold(vec![vec![]], |tables, _| {
         tables.iter().flat_map(|table| choices.iter().map(|&word| [&table[..], &[word]].concat())).collect()
     })

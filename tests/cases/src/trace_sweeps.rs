@@ -1,5 +1,6 @@
 //! Sweeps of traces: through every ring length, byte value, number, line length and way to go bad, and up to `full`.
 
+use crate::blamed_sweeps::blamed_traces;
 use crate::column_sweeps::column_traces;
 use crate::long_lines::{line_of_length, Flaw};
 use crate::random::Random;
@@ -30,6 +31,7 @@ pub fn sweep_traces() -> Vec<(&'static str, Vec<u8>)> {
         }
     }
     traces.extend(column_traces());
+    traces.extend(blamed_traces());
     traces
 }
 

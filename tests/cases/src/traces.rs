@@ -1,6 +1,7 @@
 //! Families of random traces for the program. A trace is known by its seed alone.
 
 use crate::bad_lines::spoil_line;
+use crate::blamed::{actor, blamed_step};
 use crate::long_lines::{line_of_length, FLAWS, LEAST_LENGTH};
 use crate::random::Random;
 use crate::step_choice::{choose, wild, Taste};
@@ -9,7 +10,7 @@ use model::{Step, LINE_BYTES};
 
 type Family = (&'static str, fn(&mut Random) -> Vec<u8>);
 
-const FAMILIES: [Family; 11] = [
+const FAMILIES: [Family; 12] = [
     ("walk", walk),
     ("walk", walk),
     ("walk with bad lines", spoiled_walk),
@@ -17,6 +18,7 @@ const FAMILIES: [Family; 11] = [
     ("chain", random_chain),
     ("waiters", waiters),
     ("async lists", async_lists),
+    ("blamed", blamed),
     ("lines round the limit", limit_lines),
     ("opens", opens),
     ("any bytes", any_bytes),
@@ -178,6 +180,34 @@ fn async_lists(r: &mut Random) -> Vec<u8> {
             list.insert(place, entry);
         }
         trace.step(&Step::Async { t, c: r.number(tasks), list });
+    }
+    trace.bytes
+}
+
+/// Promises handed to children that end, set and listed by those that are left.
+fn blamed(r: &mut Random) -> Vec<u8> {
+    let (tasks, promises) = (r.task_count().max(2), r.promise_count().max(2));
+    let mut trace = TraceWriter::opened(tasks, promises);
+    for p in r.order(promises) {
+        trace.step(&Step::New { t: 0, p: p as u16 });
+    }
+    let children = r.order(tasks);
+    for &c in &children[..1 + r.below(tasks)] {
+        let list = (0..promises as u16).filter(|&p| trace.tables().1[p as usize] == 16 && r.once_in(4)).collect();
+        trace.step(&Step::Async { t: 0, c: c as u16, list });
+        if r.once_in(2) {
+            trace.step(&Step::End { t: c as u16 });
+        }
+    }
+    let taste = Taste::any(r);
+    for _ in 0..10 + r.below(60) {
+        let (tasks, promises) = trace.tables();
+        let step = match r.below(12) {
+            0 => Step::End { t: actor(r, tasks, promises) },
+            1 => choose(r, taste, tasks, promises),
+            _ => blamed_step(r, tasks, promises),
+        };
+        trace.step(&step);
     }
     trace.bytes
 }

@@ -3,9 +3,9 @@
 //! Every slice is a pointer and a length in words of 16 bits. A step returns its
 //! answer's number and writes four words: the number, then up to three values,
 //! unused ones 0. A refusal has the paper's number, with the place as first value
-//! for a list entry. Accepted answers: 101 made, 102 set, 103 value, 104 blamed,
-//! 105 waits, 106 cycle, 107 started, 108 ended. If fewer than four answer words
-//! are lent, a step returns 1 and writes nothing.
+//! for a list entry; the blamed task is the next value of a 17. Accepted answers: 101
+//! made, 102 set, 103 value, 104 blamed, 105 waits, 106 cycle, 107 started, 108 ended.
+//! If fewer than four answer words are lent, a step returns 1 and writes nothing.
 //!
 //! A batch takes records of five words: the kind (0 new, 1 set, 2 get, 3 async, 4 end), the
 //! acting task, the promise or child, and for async the start and the length of its part of the

@@ -11,6 +11,7 @@ mod feed;
 mod held_open;
 mod program;
 
+use cases::answer_names::{blamed_names, BLAMED_NAMES};
 use cases::options::{number_after, present};
 use cases::progress::Progress;
 use cases::random::case_seed;
@@ -32,7 +33,7 @@ const LARGE_TRACE: usize = 150_000;
 /// Every first word an answer can have, and every refusal a line can get:
 /// with sound tables from the start, refusal 2 is never among them.
 const ANSWERS: [&str; 10] = ["opened", "made", "set", "value", "blamed", "waits", "cycle", "started", "ended", "full"];
-const REFUSALS: [u16; 14] = [1, 3, 4, 5, 6, 7, 8, 9, 10, 11, 12, 13, 14, 15];
+const REFUSALS: [u16; 15] = [1, 3, 4, 5, 6, 7, 8, 9, 10, 11, 12, 13, 14, 15, 17];
 /// The columns of refusal 14 that must be seen, by where they lie.
 const COLUMNS: [&str; 5] = ["column 0", "column to 15", "column to 255", "column to 2047", "column 2048"];
 
@@ -47,7 +48,7 @@ fn main() {
     let seed = number_after("--seed").unwrap_or(FIXED_SEED);
     let expected = ANSWERS.iter().map(|word| word.to_string());
     let expected = expected.chain(REFUSALS.iter().map(|number| format!("refused {number:02}")));
-    let expected = expected.chain(COLUMNS.iter().map(|name| name.to_string()));
+    let expected = expected.chain(COLUMNS.iter().chain(&BLAMED_NAMES).map(|name| name.to_string()));
     let mut check = Check { program: Program::from_environment(small), tally: Tally::expecting(expected), traces: 0 };
 
     if let Some(seed) = number_after("--trace") {
@@ -111,8 +112,11 @@ impl Check {
             match (fields.next(), fields.next()) {
                 (Some("refused"), Some(number)) => {
                     self.tally.add(&format!("refused {number:0>2}"), 1);
-                    if number == "14" {
-                        self.tally.add(column_name(fields.next()), 1);
+                    let mut value = || fields.next().and_then(|field| field.parse().ok());
+                    match number {
+                        "14" => self.tally.add(column_name(value()), 1),
+                        "17" => blamed_values(value(), value()).iter().for_each(|name| self.tally.add(name, 1)),
+                        _ => {}
                     }
                 }
                 (Some(word), _) => self.tally.add(word, 1),
@@ -161,14 +165,23 @@ impl Check {
 }
 
 /// How the tally calls a column of refusal 14.
-fn column_name(column: Option<&str>) -> &'static str {
-    match column.and_then(|column| column.parse().ok()) {
+fn column_name(column: Option<usize>) -> &'static str {
+    match column {
         Some(0) => COLUMNS[0],
         Some(1..=15) => COLUMNS[1],
         Some(16..=255) => COLUMNS[2],
         Some(256..LINE_BYTES) => COLUMNS[3],
         Some(LINE_BYTES) => COLUMNS[4],
         _ => panic!("the model told column {column:?}"),
+    }
+}
+
+/// How the tally calls a 17 with these values: the task, or the place and the task.
+fn blamed_values(first: Option<usize>, second: Option<usize>) -> [&'static str; 2] {
+    match (first, second) {
+        (Some(task), None) => blamed_names(None, task as u16),
+        (Some(place), Some(task)) => blamed_names(Some(place as u16), task as u16),
+        _ => panic!("the model told 17 without a task"),
     }
 }
 

@@ -15,6 +15,10 @@ pub enum Answer {
     Refused(u16),
     /// Refused for the list entry at this place, counted from 0.
     RefusedAt(u16, usize),
+    /// Refused for a blamed promise, with the task it is blamed on.
+    RefusedBlamed(u16, usize),
+    /// Refused for the list entry at this place, whose promise is blamed on this task.
+    RefusedBlamedAt(u16, usize, usize),
     Made,
     /// How many tasks became ready.
     Set(usize),
@@ -31,11 +35,35 @@ pub enum Answer {
 }
 
 impl Answer {
+    pub fn is_refused(self) -> bool {
+        use Answer::*;
+        matches!(self, Refused(_) | RefusedAt(..) | RefusedBlamed(..) | RefusedBlamedAt(..))
+    }
+
+    /// The refusal of a promise as that of the list entry at this place.
+    pub(crate) fn at(self, place: usize) -> Answer {
+        match self {
+            Answer::Refused(number) => Answer::RefusedAt(number, place),
+            Answer::RefusedBlamed(number, task) => Answer::RefusedBlamedAt(number, place, task),
+            _ => self,
+        }
+    }
+
+    /// The place of a refused list entry.
+    pub(crate) fn place(self) -> Option<usize> {
+        match self {
+            Answer::RefusedAt(_, place) | Answer::RefusedBlamedAt(_, place, _) => Some(place),
+            _ => None,
+        }
+    }
+
     /// The answer as four words: its number, then up to three values, unused ones 0.
     pub fn words(self) -> [u16; 4] {
         match self {
             Answer::Refused(number) => [number, 0, 0, 0],
             Answer::RefusedAt(number, place) => [number, place as u16, 0, 0],
+            Answer::RefusedBlamed(number, task) => [number, task as u16, 0, 0],
+            Answer::RefusedBlamedAt(number, place, task) => [number, place as u16, task as u16, 0],
             Answer::Made => [101, 0, 0, 0],
             Answer::Set(woken) => [102, woken as u16, 0, 0],
             Answer::Value => [103, 0, 0, 0],

@@ -65,14 +65,16 @@ impl Model {
             }
             let (answer, words) = self.take(&record, lent);
             let (answer, words) = self.bent_again(&record, last, lent).unwrap_or((answer, words));
+            let (answer, words) = self.bent_told(&record, (answer, words), &before[1], lent.list);
             put(lent.report, self.bent_report_place(index, given, lent), &words);
             self.put_answer(index, answer, lent);
+            self.bend_17_words(index, answer, lent);
             self.bend_tables(index, answer, &mut before, lent);
             given += words.len() + self.bent_gap(answer, lent);
             last = answer;
         }
         self.bend_rest(given, lent);
-        0
+        self.bent_return(lent)
     }
 
     /// The refusal of the whole call, if there is one: 1 for its lengths and kinds, then 2 for its tables.

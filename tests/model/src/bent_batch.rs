@@ -3,10 +3,6 @@
 use crate::batch::{put, Batch, ANSWER_WORDS, END, RECORD_WORDS};
 use crate::{Answer, Model, Twist};
 
-fn is_refused(answer: Answer) -> bool {
-    matches!(answer, Answer::Refused(_) | Answer::RefusedAt(..))
-}
-
 impl Model {
     /// The records in the order in which they are taken.
     pub(crate) fn bent_order(&self, records: usize) -> Vec<usize> {
@@ -20,8 +16,9 @@ impl Model {
     /// Whether the batch breaks off before this record, after the answer before it.
     pub(crate) fn breaks_off(&self, record: &[u16; RECORD_WORDS], last: Answer) -> bool {
         match self.twist {
-            Twist::StopsAtRefused => is_refused(last),
+            Twist::StopsAtRefused => last.is_refused(),
             Twist::StopsAtPart => last == Answer::Refused(16),
+            Twist::StopsAtBlamed => last.words()[0] == 17,
             Twist::StopsAtAlarm => matches!(last, Answer::Cycle(_)),
             Twist::KindTestedLate => record[0] > END,
             _ => false,
@@ -35,7 +32,7 @@ impl Model {
         last: Answer,
         lent: &mut Batch,
     ) -> Option<(Answer, Vec<u16>)> {
-        (self.is(Twist::NextTwice) && is_refused(last)).then(|| self.take(record, lent))
+        (self.is(Twist::NextTwice) && last.is_refused()).then(|| self.take(record, lent))
     }
 
     /// Where the step's words go in the report.
@@ -51,9 +48,10 @@ impl Model {
     /// How many report words are passed over after this answer.
     pub(crate) fn bent_gap(&self, answer: Answer, lent: &Batch) -> usize {
         match self.twist {
-            Twist::GapAfterRefused if is_refused(answer) => lent.step_room(),
+            Twist::GapAfterRefused if answer.is_refused() => lent.step_room(),
             Twist::GapAfterPart if answer == Answer::Refused(16) => 1,
-            Twist::GapAfterSilent if answer.report_words() == 0 && !is_refused(answer) => 1,
+            Twist::GapAfterBlamed if answer.words()[0] == 17 => 1,
+            Twist::GapAfterSilent if answer.report_words() == 0 && !answer.is_refused() => 1,
             _ => 0,
         }
     }
@@ -77,7 +75,7 @@ impl Model {
             Twist::FirstCarriedOut => index > 0,
             Twist::TablesAsLent => !is_last,
             Twist::TablesKept => is_last,
-            Twist::RefusedPutsBack => is_refused(answer),
+            Twist::RefusedPutsBack => answer.is_refused(),
             _ => false,
         };
         if put_back {

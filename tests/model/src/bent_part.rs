@@ -67,7 +67,8 @@ impl Model {
             (Twist::PartAfterThree, 3) => Some(tried),
             (Twist::PartAfterFive, 3..=5) => Some(tried),
             (Twist::PartAfterChild, 3..=5 | 11 | 12) => Some(tried),
-            (Twist::PartAfterEntries, 3..=13) => Some(tried),
+            (Twist::PartAfterEntries, 3..=13 | 17) => Some(tried),
+            (Twist::PartAfterBlamed, 17) => Some(tried),
             (Twist::PartIsThirteen, _) => Some(Answer::Refused(13)),
             (Twist::PartTellsStart, _) => Some(Answer::RefusedAt(16, start as usize)),
             _ => None,
@@ -76,10 +77,15 @@ impl Model {
 
     /// The answer, its place bent where a twist asks for it.
     pub(crate) fn bent_place(&self, answer: Answer, record: &[u16; RECORD_WORDS]) -> Answer {
+        let from_list = |place: usize| place + record[3] as usize;
         match (self.twist, answer) {
             (Twist::PartPlacesFromList, Answer::RefusedAt(number, place)) => {
-                Answer::RefusedAt(number, place + record[3] as usize)
+                Answer::RefusedAt(number, from_list(place))
             }
+            (
+                Twist::PartPlacesFromList | Twist::BatchBlamedPlaceFromList,
+                Answer::RefusedBlamedAt(number, place, task),
+            ) => Answer::RefusedBlamedAt(number, from_list(place), task),
             _ => answer,
         }
     }

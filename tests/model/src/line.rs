@@ -125,6 +125,9 @@ impl Model {
             Answer::Refused(number) => vec![number],
             Answer::RefusedAt(number, _) if self.is(Twist::PlaceUntold) => vec![number],
             Answer::RefusedAt(number, place) => vec![number, place as u16],
+            Answer::RefusedBlamed(number, task) => vec![number, task as u16],
+            Answer::RefusedBlamedAt(number, _, task) if self.is(Twist::PlaceUntold) => vec![number, task as u16],
+            Answer::RefusedBlamedAt(number, place, task) => vec![number, place as u16, task as u16],
             Answer::Made | Answer::Value | Answer::Started => vec![],
             Answer::Set(woken) => [&[woken as u16], &report[..woken]].concat(),
             Answer::Blamed(task) => vec![task as u16],
@@ -136,6 +139,7 @@ impl Model {
             }
         };
         let name = Answer::name(answer.words()[0]).to_string();
-        [name].into_iter().chain(values.iter().map(u16::to_string)).collect()
+        let fields = [name].into_iter().chain(values.iter().map(u16::to_string)).collect();
+        self.bent_fields(answer, fields)
     }
 }

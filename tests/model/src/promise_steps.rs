@@ -19,7 +19,7 @@ impl Model {
 
     pub(crate) fn set(&self, tables: &mut Tables, t: usize, p: usize) -> Outcome {
         self.acting(tables, t)?;
-        self.owned(tables, t, p).map_err(Answer::Refused)?;
+        self.owned(tables, t, p)?;
         let mut woken = tables.waiting_on(&[p]);
         if self.is(Twist::SetWakesOne) {
             woken.truncate(1);
@@ -36,7 +36,7 @@ impl Model {
 
     pub(crate) fn get(&self, tables: &mut Tables, t: usize, p: usize) -> Outcome {
         self.acting(tables, t)?;
-        match self.made(tables, p).map_err(Answer::Refused)? {
+        match self.made(tables, p)? {
             Promise::Set => {
                 let named = if self.is(Twist::ValueWritesReport) { vec![1] } else { vec![] };
                 return Ok((Answer::Value, named));

@@ -26,7 +26,7 @@ impl Model {
             Step::Async { t, c, list } => self.start(&mut after, *t as usize, *c as usize, list),
             Step::End { t } => self.end(&mut after, *t as usize),
         };
-        match outcome {
+        match self.bent_blame(step, &before, &mut after, outcome) {
             Ok((answer, named)) => {
                 let keeps_tables = self.is(Twist::WritesNoTable)
                     || self.is(Twist::CarriesOutFirstOnly) && before != Tables::fresh(tasks.len(), promises.len());
@@ -42,9 +42,10 @@ impl Model {
                 self.told(answer)
             }
             Err(refusal) => {
-                if self.is(Twist::AsyncMovesThenRefuses) {
+                if self.is(Twist::AsyncMovesThenRefuses) || self.bends_refused_tables() {
                     self.write_tables(&after, tasks, promises);
                 }
+                self.bend_refused_report(refusal, report);
                 refusal
             }
         }
@@ -105,23 +106,24 @@ impl Model {
     }
 
     /// Refusal 6, and 8 for a promise that must have been made: the promise, if `p` names one.
-    pub(crate) fn made(&self, tables: &Tables, p: usize) -> Result<Promise, u16> {
+    pub(crate) fn made(&self, tables: &Tables, p: usize) -> Result<Promise, Answer> {
         if p >= tables.promises.len() {
-            return Err(if p == tables.promises.len() && self.is(Twist::PromiseAtBound) { 8 } else { 6 });
+            return refuse(if p == tables.promises.len() && self.is(Twist::PromiseAtBound) { 8 } else { 6 });
         }
         match tables.promises[p] {
-            Promise::NeverMade => Err(if self.is(Twist::OwnerBeforeMade) { 10 } else { 8 }),
+            Promise::NeverMade => refuse(if self.is(Twist::OwnerBeforeMade) { 10 } else { 8 }),
             promise => Ok(promise),
         }
     }
 
-    /// Refusals 6, 8, 9 and 10: `p` must be owned by `t`.
-    pub(crate) fn owned(&self, tables: &Tables, t: usize, p: usize) -> Result<(), u16> {
+    /// Refusals 6, 8, 9, 17 and 10: `p` must be owned by `t`.
+    pub(crate) fn owned(&self, tables: &Tables, t: usize, p: usize) -> Result<(), Answer> {
         match self.made(tables, p)? {
-            Promise::Blamed(_) if self.is(Twist::BlamedIsNotClosed) => Err(10),
-            promise if promise.is_closed() => Err(if self.is(Twist::OwnerBeforeClosed) { 10 } else { 9 }),
+            promise if promise.is_closed() && self.is(Twist::OwnerBeforeClosed) => refuse(10),
+            Promise::Set => refuse(9),
+            Promise::Blamed(b) => Err(Answer::RefusedBlamed(17, b)),
             promise if promise == Promise::Owned(t) || self.is(Twist::AnyoneMaySet) => Ok(()),
-            _ => Err(10),
+            _ => refuse(10),
         }
     }
 }

@@ -15,7 +15,7 @@ impl Model {
         let moved = match outcome {
             Ok(()) if self.is(Twist::AsyncMovesNothing) => 0,
             Ok(()) => list.len(),
-            Err(Answer::RefusedAt(_, place)) if self.is(Twist::AsyncMovesThenRefuses) => place,
+            Err(refusal) if self.is(Twist::AsyncMovesThenRefuses) => refusal.place().unwrap_or(0),
             Err(refusal) => return Err(refusal),
         };
         for &p in &list[..moved] {
@@ -40,19 +40,20 @@ impl Model {
         }
     }
 
-    /// Refusals 6, 8, 9, 10 and 13 over the list, entry by entry.
-    fn entries(&self, tables: &Tables, t: usize, list: &[u16]) -> Result<(), Answer> {
+    /// Refusals 6, 8, 9, 17, 10 and 13 over the list, entry by entry.
+    pub(crate) fn entries(&self, tables: &Tables, t: usize, list: &[u16]) -> Result<(), Answer> {
         for (place, &p) in list.iter().enumerate() {
             if place == 256 && self.is(Twist::Reads256Entries) {
                 break;
             }
-            let refused = |number| Err(Answer::RefusedAt(number, place + self.slip(Twist::PlacesFromOne)));
-            if let Err(number) = self.owned(tables, t, p as usize) {
-                return refused(number);
+            let told_place = place + self.slip(Twist::PlacesFromOne);
+            if let Err(refusal) = self.owned(tables, t, p as usize) {
+                return Err(refusal.at(told_place));
             }
             let first = if self.is(Twist::RepeatsOnlyBeside) { place.saturating_sub(1) } else { 0 };
             if list[first..place].contains(&p) && !self.is(Twist::RepeatsPass) {
-                return refused(if self.is(Twist::RepeatIsNotOwner) { 10 } else { 13 });
+                let number = if self.is(Twist::RepeatIsNotOwner) { 10 } else { 13 };
+                return Err(Answer::RefusedAt(number, told_place));
             }
         }
         Ok(())

@@ -51,9 +51,8 @@ twists! {
     ActorBeforeDamage, InSteps, "3 and 4 come before 2";
     ListBeforeChild, InSteps, "the list is tried before the child";
     OwnerBeforeMade, InSteps, "10 comes before 8";
-    OwnerBeforeClosed, InSteps, "10 comes before 9";
+    OwnerBeforeClosed, InSteps, "10 comes before 9 and 17";
     RepeatIsNotOwner, InSteps, "a repeated entry gives 10";
-    BlamedIsNotClosed, InSteps, "a blamed promise gives 10";
     SwapsIdleAndWaiting, InSteps, "4 and 5 are swapped";
     WaitingMayAct, InSteps, "5 is never given";
     AnyoneMaySet, InSteps, "10 is never given to an owned promise";
@@ -62,6 +61,85 @@ twists! {
     EndedStartsAgain, InSteps, "an ended task may be a child";
     ClosedIsMadeAgain, InSteps, "a closed promise may be made again";
     TaskZeroMayNotEnd, InSteps, "task 0 may not end";
+
+    // Refusal 17: another refusal in its place, or 17 for some alone.
+    BlamedIsNotClosed, InSteps, "a blamed promise gives 10";
+    BlamedIsSet, InSteps, "a blamed promise gives 9";
+    BlamedIsSetInSet, InSteps, "17 is given in async alone, set gives 9";
+    BlamedIsSetInAsync, InSteps, "17 is given in set alone, async gives 9";
+    BlamedIsUnmade, InSteps, "a blamed promise gives 8";
+    BlamedIsRepeat, InSteps, "a blamed entry gives 13";
+    SwapsSetAndBlamed, InSteps, "9 and 17 are swapped";
+    SetIsBlamed, InSteps, "a set promise gives 17";
+    ForeignIsBlamed, InSteps, "another task's promise gives 17 with its owner";
+    NineTellsActor, InSteps, "9 tells the acting task";
+    NineTellsBlamed, InSteps, "a blamed promise gives 9 with the blamed task";
+    BlamedZeroIsSet, InSteps, "a promise blamed on task 0 gives 9";
+    BlamedLastIsSet, InSteps, "a promise blamed on task T-1 gives 9";
+    BlamedFirstOnly, InSteps, "17 is given for the first entry alone, later ones give 9";
+    BlamedLaterOnly, InSteps, "17 is given for later entries alone, the first gives 9";
+    BlamedToLowerOnly, InSteps, "17 is given to tasks below the blamed one alone, others get 10";
+    BlamedToHigherOnly, InSteps, "17 is given to tasks above the blamed one alone, others get 10";
+    BlamedToZeroOnly, InSteps, "17 is given to task 0 alone, others get 10";
+    BlamedToOwnersOnly, InSteps, "17 is given to tasks that own a promise alone, others get 10";
+    BlamedToOthersOnly, InSteps, "17 is given to tasks that own no promise alone, others get 10";
+
+    // Refusal 17 out of order, or in other steps.
+    BlamedBeforeThree, InSteps, "17 comes before 3";
+    BlamedBeforeFour, InSteps, "17 comes before 4";
+    BlamedBeforeFive, InSteps, "17 comes before 5";
+    BlamedBeforeChild, InSteps, "17 comes before 11 and 12";
+    BlamedBeforeTwelve, InSteps, "17 comes before 12";
+    BlamedBeforeList, InSteps, "17 comes before what is wrong with earlier entries";
+    BlamedBeforeSix, InSteps, "17 comes before the 6 of an earlier entry";
+    BlamedBeforeEight, InSteps, "17 comes before the 8 of an earlier entry";
+    BlamedBeforeNine, InSteps, "17 comes before the 9 of an earlier entry";
+    BlamedBeforeTen, InSteps, "17 comes before the 10 of an earlier entry";
+    BlamedBeforeThirteen, InSteps, "17 comes before the 13 of an earlier entry";
+    BlamedAfterList, InSteps, "17 comes after what is wrong with later entries";
+    BlamedAfterNine, InSteps, "17 comes after the 9 of a later entry";
+    BlamedAfterThirteen, InSteps, "17 comes after the 13 of a later entry";
+    GetOfBlamedRefused, InSteps, "get of a blamed promise gives 17";
+    NewOfBlamedRefused, InSteps, "new of a blamed promise gives 17";
+
+    // The task and the place of a 17.
+    BlamedUntold, InSteps, "17 comes without its task";
+    BlamedUntoldInSet, InSteps, "17 comes without its task in set";
+    BlamedUntoldInAsync, InSteps, "17 comes without its task in async";
+    BlamedTellsActor, InSteps, "17 tells the acting task";
+    BlamedTellsPromise, InSteps, "17 tells the promise";
+    BlamedTellsChild, InSteps, "17 tells the child";
+    BlamedTellsWord, InSteps, "17 tells the promise's word";
+    BlamedTellsAsOwner, InSteps, "17 tells the word less 16";
+    BlamedTellsNext, InSteps, "17 tells the blamed task plus 1";
+    BlamedTellsBefore, InSteps, "17 tells the blamed task less 1";
+    BlamedInFiveBits, InSteps, "17 tells its task in 5 bits";
+    BlamedTellsLeast, InSteps, "17 tells the least task that any promise is blamed on";
+    BlamedTellsLargest, InSteps, "17 tells the largest task that any promise is blamed on";
+    BlamedOfFirstEntry, InSteps, "17 tells the task of the list's first entry";
+    BlamedOfLastEntry, InSteps, "17 tells the task of the list's last blamed entry";
+    BlamedAtLastEntry, InSteps, "17 tells place and task of the list's last blamed entry";
+    BlamedBeforePlace, InSteps, "17 tells its task before the place";
+    BlamedPlaceUntold, InSteps, "17 comes without its place";
+    BlamedPlaceZero, InSteps, "17 tells place 0";
+    BlamedPlaceFromOne, InSteps, "the places of 17 are counted from 1";
+    BlamedPlaceFromEnd, InSteps, "the places of 17 are counted from the list's end";
+    BlamedPlaceIsEntry, InSteps, "17 tells the entry as its place";
+    BlamedPlaceInSevenBits, InSteps, "17 tells its place in 7 bits";
+    BlamedSetTellsPlace, InSteps, "17 tells a place in set too";
+
+    // What is done with a blamed promise.
+    BlamedMayBeSet, InSteps, "a blamed promise may be set";
+    BlamedMayBeListed, InSteps, "a blamed promise may be listed";
+    BlamedIsPassedOver, InSteps, "blamed entries are passed over";
+    BlamedIsSetAnyway, InSteps, "17 is given and the promise is set";
+    BlamedIsTaken, InSteps, "17 is given and the promise passes to the acting task";
+    BlamedIsForgotten, InSteps, "17 is given and the promise is as if never made";
+    BlamedStartsChild, InSteps, "17 is given and the child is started";
+    BlamedMovesFirst, InSteps, "17 is given and the entries before it are moved";
+    BlamedReportsInSet, InSteps, "17 writes its task to the report in set";
+    BlamedReportsInAsync, InSteps, "17 writes its task to the report in async";
+    BlamedReturnsNine, InSteps, "17 is written and 9 returned";
 
     // Limits off by one.
     Takes65Tasks, InSteps, "T may be 65";
@@ -141,6 +219,24 @@ twists! {
     EmptyLineSkipped, InLines, "an empty line gets no answer";
     LastLineDropped, InLines, "a last line without LF is not read";
     EmptyLastAnswered, InLines, "nothing after the last LF is answered";
+
+    // The line of a 17.
+    LineNineTellsTask, InLines, "9 is told with a task";
+    LineBlamedUntold, InLines, "17 is told without its task";
+    LineBlamedZeroUntold, InLines, "17 is told without its task if that is 0";
+    LineBlamedPlaceUntold, InLines, "17 is told without its place";
+    LineBlamedPlaceZeroUntold, InLines, "17 is told without its place if that is 0";
+    LineBlamedBeforePlace, InLines, "17 is told with its task before its place";
+    LineBlamedSetTellsPlace, InLines, "17 is told with a place for set too";
+    LineBlamedAllWords, InLines, "17 is told with its unused values";
+    LineBlamedNamed, InLines, "17 is told with the word blamed before its task";
+    LineBlamedOneDigit, InLines, "17 is told with the last digit of its task";
+    LineBlamedTwoDigits, InLines, "17 is told with two digits of its task always";
+    LineBlamedWord, InLines, "17 is told with the promise's word";
+    LineBlamedBlank, InLines, "17 is told with a blank between place and task";
+    LineBlamedEndsWithTab, InLines, "17 is told with a tab behind it";
+    LineBlamedIsAnswer, InLines, "17 is told as get tells it";
+    LineBlamedIsNine, InLines, "17 is told as 9";
 
     // The column of a line that went bad.
     ColumnUntold, InLines, "14 is told without a column";
@@ -241,6 +337,23 @@ twists! {
     AnswersTailCleared, InBatches, "answers past the last are cleared";
     AnswersPastLast, InBatches, "one answer past the last is written";
     AnswersEndMarked, InBatches, "a word past the last answer is written";
+
+    // Refusal 17 in a batch.
+    BatchBlamedUntold, InBatches, "17 comes without its task in a batch";
+    BatchBlamedUntoldInSet, InBatches, "17 comes without its task in a batch's set";
+    BatchBlamedUntoldInAsync, InBatches, "17 comes without its task in a batch's async";
+    BatchBlamedPlaceUntold, InBatches, "17 comes without its place in a batch";
+    BatchBlamedPlaceZero, InBatches, "17 tells place 0 in a batch, in set too";
+    BatchBlamedPlaceFromList, InBatches, "the places of 17 are counted from the start of a batch's list";
+    BatchBlamedBeforePlace, InBatches, "17 tells its task before its place in a batch";
+    BatchBlamedLastWord, InBatches, "17 tells its task in the answer's last word";
+    BatchBlamedIsNine, InBatches, "a blamed promise gives 9 in a batch";
+    BatchBlamedAsLent, InBatches, "a promise blamed within the call gives 9";
+    BatchBlamedReturned, InBatches, "17 is returned by the call";
+    BatchBlamedReports, InBatches, "17 writes its task to a batch's report";
+    StopsAtBlamed, InBatches, "the batch stops at the first 17";
+    GapAfterBlamed, InBatches, "a 17 leaves a gap in the report";
+    PartAfterBlamed, InBatches, "16 comes after 17";
 
     // The parts of a batch's list.
     PartAfterThree, InBatches, "16 comes after 3";

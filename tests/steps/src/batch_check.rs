@@ -3,9 +3,7 @@
 use crate::library_batch::LibraryBatch;
 use crate::one_by_one::OneByOne;
 use crate::signals;
-use cases::batch_case::{
-    answer_name, batch_difference, call_name, expected_names, BatchCase, BatchDifference, BatchSubject,
-};
+use cases::batch_case::{batch_difference, call_name, expected_names, BatchCase, BatchDifference, BatchSubject};
 use cases::batch_model::BatchModel;
 use cases::shrink_batch::shrink_batch;
 use cases::tally::Tally;
@@ -50,7 +48,7 @@ impl Check {
             tally.add(&call_name(number), 1);
             done = number == 0;
             if done {
-                after.answer_numbers().for_each(|number| tally.add(&answer_name(number), 1));
+                after.answer_names().for_each(|name| tally.add(&name, 1));
                 *steps += after.records() as u64;
             }
         });

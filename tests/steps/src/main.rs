@@ -11,7 +11,8 @@ mod guarded;
 mod library_subject;
 mod signals;
 
-use cases::case::{difference, Case, Difference};
+use cases::answer_names::{answer_name, names_of, BLAMED_NAMES};
+use cases::case::{difference, Case, Difference, Lent};
 use cases::families::random_case;
 use cases::model_subject::ModelSubject;
 use cases::options::{number_after, present};
@@ -21,7 +22,7 @@ use cases::shrink_case::shrink_case;
 use cases::sweeps::{sweep_all, sweep_short};
 use cases::tally::Tally;
 use library_subject::LibrarySubject;
-use model::Answer;
+use model::Step;
 use std::ops::ControlFlow;
 use std::process::exit;
 
@@ -43,7 +44,7 @@ fn main() {
     let mut check = Check {
         model: ModelSubject::paper(),
         library: if small { LibrarySubject::exact() } else { LibrarySubject::guarded() },
-        tally: Tally::expecting((1..=13).chain(101..=108).map(name)),
+        tally: Tally::expecting(expected_names()),
         cases: 0,
     };
     if let Some(seed) = number_after("--case") {
@@ -98,11 +99,18 @@ fn main() {
     check.finish(small || present("--seconds"));
 }
 
-/// How the tally calls the answer of this number.
-fn name(number: u16) -> String {
-    match number {
-        101..=108 => Answer::name(number).to_string(),
-        _ => format!("refused {number:02}"),
+/// What must be seen of steps: every answer, every refusal of a step, and 17 in every way.
+fn expected_names() -> impl Iterator<Item = String> {
+    let answers = (1..=13).chain([17]).chain(101..=108).map(answer_name);
+    answers.chain(BLAMED_NAMES.iter().map(|name| name.to_string()))
+}
+
+/// Counts what a step gave; its answer is among the lent words unless these were too few.
+fn count(tally: &mut Tally, step: &Step, number: u16, after: &Lent) {
+    let is_async = matches!(step, Step::Async { .. });
+    match after.answer.first_chunk() {
+        Some(words) if words[0] == number => names_of(*words, is_async).iter().for_each(|name| tally.add(name, 1)),
+        _ => tally.add(&answer_name(number), 1),
     }
 }
 
@@ -120,7 +128,8 @@ impl Check {
     fn compare(&mut self, case: &Case, place: impl Fn() -> String) {
         self.cases += 1;
         let tally = &mut self.tally;
-        let found = difference(case, &mut self.model, &mut self.library, &mut |number| tally.add(&name(number), 1));
+        let seen = &mut |step: &Step, number, after: &Lent| count(tally, step, number, after);
+        let found = difference(case, &mut self.model, &mut self.library, seen);
         if let Some(difference) = found {
             self.show(&place(), case, &difference);
         }
@@ -128,7 +137,7 @@ impl Check {
 
     /// Shows the difference on the smallest case that has one, and ends.
     fn show(&mut self, place: &str, case: &Case, first: &Difference) -> ! {
-        let mut differs = |case: &Case| difference(case, &mut self.model, &mut self.library, &mut |_| {});
+        let mut differs = |case: &Case| difference(case, &mut self.model, &mut self.library, &mut |_, _, _| {});
         println!("steps: DIFFERENCE (expected by the model / found in the library) in {place}");
         let small = shrink_case(case, first.index(), &mut |case| differs(case).is_some());
         print!("{}", small.describe());

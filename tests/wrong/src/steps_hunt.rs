@@ -14,7 +14,7 @@ const RUN_SEED: u64 = 20_000;
 const RANDOM_CASES: u64 = 6_000;
 
 fn differs(twist: Twist, case: &Case) -> Option<Difference> {
-    difference(case, &mut ModelSubject::paper(), &mut ModelSubject::twisted(twist), &mut |_| {})
+    difference(case, &mut ModelSubject::paper(), &mut ModelSubject::twisted(twist), &mut |_, _, _| {})
 }
 
 pub fn hunt(twist: Twist, hunt: Hunt) -> Found {
