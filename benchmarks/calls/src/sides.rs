@@ -64,6 +64,8 @@ fn words(answer: Answer) -> [u16; 4] {
     match answer {
         Answer::Refused(number) => [number, 0, 0, 0],
         Answer::RefusedAt(number, place) => [number, place, 0, 0],
+        Answer::RefusedBlamed(task) => [17, task, 0, 0],
+        Answer::RefusedBlamedAt(place, task) => [17, place, task, 0],
         Answer::Made => [101, 0, 0, 0],
         Answer::Set(woken) => [102, woken, 0, 0],
         Answer::Value => [103, 0, 0, 0],

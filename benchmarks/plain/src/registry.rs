@@ -1,11 +1,13 @@
 //! The five steps, directly on the words.
 
-use crate::sound::{is_owned, is_sound, BASE, BLAMED, ENDED, MOST_PROMISES, MOST_TASKS, READY};
+use crate::sound::{is_sound, BASE, BLAMED, ENDED, MOST_PROMISES, MOST_TASKS, READY};
 
 #[derive(Clone, Copy, PartialEq, Eq, Debug)]
 pub enum Answer {
     Refused(u16),
     RefusedAt(u16, u16),
+    RefusedBlamed(u16),
+    RefusedBlamedAt(u16, u16),
     Made,
     Set(u16),
     Value,
@@ -59,12 +61,13 @@ impl Lent<'_> {
         Some(Answer::Refused(number))
     }
 
-    /// Refusals 6, 8, 9 and 10, or 0: `p` must be owned by `t`.
+    /// Refusals 6, 8, 9, 17 and 10, or 0: `p` must be owned by `t`.
     fn owner_refusal(&self, t: u16, p: u16) -> u16 {
         match self.promises.get(p as usize) {
             None => 6,
             Some(0) => 8,
-            Some(&word) if !is_owned(word) => 9,
+            Some(1) => 9,
+            Some(&word) if word >= BLAMED => 17,
             Some(&word) if word != BASE + t => 10,
             Some(_) => 0,
         }
@@ -90,6 +93,7 @@ impl Lent<'_> {
         }
         match self.owner_refusal(t, p) {
             0 => {}
+            17 => return Answer::RefusedBlamed(self.promises[p as usize] - BLAMED),
             number => return Answer::Refused(number),
         }
         self.promises[p as usize] = 1;
@@ -159,10 +163,11 @@ impl Lent<'_> {
                 0 if listed[p as usize] => 13,
                 number => number,
             };
-            if number != 0 {
-                return Answer::RefusedAt(number, place as u16);
+            match number {
+                0 => listed[p as usize] = true,
+                17 => return Answer::RefusedBlamedAt(place as u16, self.promises[p as usize] - BLAMED),
+                number => return Answer::RefusedAt(number, place as u16),
             }
-            listed[p as usize] = true;
         }
         for &p in list {
             self.promises[p as usize] = BASE + c;

@@ -1,5 +1,6 @@
 //! A session of lines: one line in, one answer line added to the output.
 
+use crate::column::column;
 use crate::registry::{fresh, Answer, Lent};
 use crate::sound::{MOST_PROMISES, MOST_TASKS};
 
@@ -41,7 +42,7 @@ impl Session {
         push_number(output, number);
         let record = if line.len() > LINE_BYTES { None } else { self.parse(line) };
         let answer = match (record, self.sizes) {
-            (None, _) => Answer::Refused(14),
+            (None, _) => Answer::RefusedAt(14, column(line) as u16),
             (Some(Record::Open(..)), Some(_)) => Answer::Refused(15),
             (Some(Record::Open(tasks, promises)), None) => {
                 if self.open(tasks as usize, promises as usize) {
@@ -114,6 +115,8 @@ impl Session {
         let (name, values): (&[u8], &[u16]) = match &answer {
             Answer::Refused(number) => (b"refused", &[*number]),
             Answer::RefusedAt(number, place) => (b"refused", &[*number, *place]),
+            Answer::RefusedBlamed(task) => (b"refused", &[17, *task]),
+            Answer::RefusedBlamedAt(place, task) => (b"refused", &[17, *place, *task]),
             Answer::Made => (b"made", &[]),
             Answer::Set(woken) => (b"set", &[*woken]),
             Answer::Value => (b"value", &[]),

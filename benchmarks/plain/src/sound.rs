@@ -10,7 +10,7 @@ pub const MOST_PROMISES: usize = 256;
 
 /// Whether the word says that its promise is owned; T is at most 64.
 #[inline]
-pub fn is_owned(word: u16) -> bool {
+fn is_owned(word: u16) -> bool {
     (BASE..BLAMED).contains(&word)
 }
 
