@@ -7,8 +7,8 @@ use Rattle.rules.specs.Sound.{hop, comes, taskPasses, promisePasses, sou
 use Rattle.rules.specs.Answers.{refusedWith, refusedAtWith}
 use Rattle.rules.specs.Refusals.{first, differs, entryRefusal, firstBad}
 use Rattle.rules.specs.Steps.{given, awaits, walk, pairs, followed, got, guarded, started}
-use Rattle.rules.specs.ProvedSet.{provedSet, blamedSet, taken, expected}
+use Rattle.rules.specs.ProvedSet.{provedSet, blamedSet, ringSet, taken, takenUntested, expected}
 
-pub proved-sets : (map taken provedSet ≡ map expected provedSet) × (map taken blamedSet ≡ map expected blamedSet)
+pub proved-sets : (map taken provedSet ≡ map expected provedSet) × (map taken blamedSet ≡ map expected blamedSet) × (map takenUntested ringSet ≡ map expected ringSet)
 unfolding sizesInBounds inBounds allBelow is places changed hop comes taskPasses promisePasses soundTest first differs entryRefusal firstBad given awaits walk pairs followed got guarded started refusedWith refusedAtWith
-proved-sets = (refl, refl)
+proved-sets = (refl, refl, refl)

@@ -15,9 +15,8 @@ use Rattle.rules.specs.Answers.{wordCount}
 use Rattle.rules.specs.Steps.{Step, step-new, step-set, step-get, step-async, step-end, Outcome, outcome, Found, astray, back, free, walk, walkBy, pairs, awaits, followed, got, stepRefused, entryRefused, effect, raw, step}
 use Rattle.rules.specs.declared.Answer.{Answer}
 use Rattle.rules.specs.declared.Answer.the-variants.{Value, Blamed}
-use Rattle.rules.proofs.GuardLaws.{guarded-by, started-by}
+use Rattle.rules.proofs.GuardLaws.{guarded-by, got-cases, started-by}
 use Rattle.rules.proofs.AnswerLaws.{at-with-by, stepRefused-by}
-use Rattle.rules.proofs.Order.{got-cases}
 
 pub pairs-length : (k : ℕ) (s : Tables) (t p : ℕ) → length (pairs k s t p) ≡ 2 * k
 unfolding pairs

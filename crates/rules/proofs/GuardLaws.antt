@@ -1,18 +1,19 @@
--- Laws of `guarded` and `started` (specs/Steps.antt), by their two cases: a guard refuses, or lets the outcome through; an async is refused for an entry, or starts its
--- child. Assumes nothing.
+-- Laws of `guarded`, `got` and `started` (specs/Steps.antt), by their cases: a guard refuses, or lets the outcome through; a get answers value, blamed, cycle or waits;
+-- an async is refused for an entry, or starts its child. Assumes nothing.
 use mathlib.Core.Path.{_≡_, refl, sym, subst}
 use mathlib.Core.Logic.{_≢_}
 use mathlib.Core.List.{List, []}
 use mathlib.Core.Bool.{Bool, true, false, cond}
-use Prim.Native.Nat.{ℕ, _≤_, _<_}
+use Prim.Native.Nat.{ℕ, _-_, _≤_, _<_}
 use native.Mathlib.Decide.{ℕ-discrete}
-use lib.Dec.{ltb}
+use lib.Dec.{eqb, leb, ltb}
 use lib.ListN.{length}
 use borrow.Author.Tests.{eq-eqb, ne-eqb, ltb-true, ltb-false}
+use Rattle.words.specs.Words.{setWord, firstOwned}
 use Rattle.rules.specs.Tables.{Tables}
-use Rattle.rules.specs.Steps.{Outcome, outcome, withStarted, guarded, entryRefused, started}
+use Rattle.rules.specs.Steps.{Outcome, outcome, withWait, withStarted, Found, astray, back, free, walk, pairs, followed, got, guarded, entryRefused, started}
 use Rattle.rules.specs.declared.Answer.{Answer}
-use Rattle.rules.specs.declared.Answer.the-variants.{Started}
+use Rattle.rules.specs.declared.Answer.the-variants.{Value, Blamed, Waits, Cycle, Started}
 
 module _ (f : ℕ → Answer) (r : ℕ) (s : Tables) (o : Outcome) where
   pub guarded-none : r ≡ 0 → guarded f r s o ≡ o
@@ -34,6 +35,19 @@ guarded-by Q f r s o refused passed = go (ℕ-discrete r 0)
 -- and of the tables after it
 pub guarded-is : (f : ℕ → Answer) (r : ℕ) (s : Tables) (o : Outcome) (Q : Tables → Type 0) → Q s → (r ≡ 0 → Q (o .after)) → Q (guarded f r s o .after)
 guarded-is f r s o Q stays passed = guarded-by (λ (x : Outcome). Q (x .after)) f r s o (λ m. stays) passed
+
+-- a get that is not refused answers value, blamed, cycle or waits
+pub got-cases : (Q : Outcome → Type 0) (B : ℕ) (s : Tables) (t p w : ℕ) → Q (outcome Value s []) → ((b : ℕ) → Q (outcome (Blamed b) s []))
+    → ((k : ℕ) → Q (outcome (Cycle k) s (pairs k s t p))) → ((k : ℕ) → Q (outcome (Waits k) (withWait s t p) [])) → Q (got B s t p w)
+unfolding got followed
+got-cases Q B s t p w v b c k = go (eqb w setWord) (leb B w) (walk (length (s .tasks)) s t (w - firstOwned) 1)
+  where
+    go : (x y : Bool) (f : Found) → Q (cond x (outcome Value s []) (cond y (outcome (Blamed (w - B)) s []) (followed s t p f)))
+    go true y f = v
+    go false true f = b (w - B)
+    go false false (back i) = c i
+    go false false (free i) = k i
+    go false false astray = k (length (s .tasks))
 
 -- i is the first bad place, or the list's end
 pub started-by : (Q : Outcome → Type 0) (B : ℕ) (s : Tables) (t c : ℕ) (list : List ℕ) (i : ℕ)

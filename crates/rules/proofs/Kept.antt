@@ -6,23 +6,24 @@ use mathlib.Core.Bool.{true}
 use Prim.Native.Nat.{ℕ, _+_, _*_, _≤_, _<_}
 use native.Mathlib.Omega.{arith}
 use native.Mathlib.Decide.{ℕ-discrete, decLt}
-use borrow.Author.Tests.{lt-ltb, lt-leb}
 use lib.ListN.{length, getD, replicate, length-set, length-replicate, getD-replicate, List·getD-eq-default}
 use lib.Seq.{getD-set-same, getD-set-other}
-use Rattle.words.specs.Words.{Form, inBounds, unusedWord, readyWord, waitsOn, firstWait, firstOwned}
-use Rattle.words.proofs.ListLaws.{within-table}
+use Rattle.words.specs.Words.{Form, inBounds, unusedWord, readyWord, waitsOn, firstOwned}
 use Rattle.words.proofs.WordLaws.{inBounds-true, inBounds-of}
 use Rattle.rules.specs.Tables.{Tables, tables, taskAt, fresh}
 use Rattle.rules.specs.Chains.{view}
 use Rattle.rules.specs.Sound.{Live, TaskWord, unused, ready, unmade, SoundView, Sound}
 use Rattle.rules.specs.Refusals.{Row, first, tableRows, actorRows}
 use Rattle.rules.specs.Steps.{Step, actor, raw, step, run}
-use Rattle.rules.specs.Demands.{Apart, Good}
+use Rattle.rules.specs.Demands.{Apart, Good, Refusal}
+use Rattle.rules.specs.declared.Answer.{Answer}
 use Rattle.rules.proofs.GuardLaws.{guarded-is}
 use Rattle.rules.proofs.Accepted.{Took, stayed, moved, took-raw}
 use Rattle.rules.proofs.Moves.{sound-step}
 use Rattle.rules.proofs.GivesLaws.{tableRows-none}
-use Rattle.rules.proofs.SoundTest.{live-yes, soundTest-sound, sound-soundTest}
+use Rattle.rules.proofs.Named.{let-through}
+use Rattle.rules.proofs.RefusalLaws.{ready-acts}
+use Rattle.rules.proofs.SoundTest.{soundTest-sound, sound-soundTest}
 
 module _ (F : Form) (apart : Apart F) (n : ℕ) where
   -- the owned words of tables within their bounds end before the blamed ones begin
@@ -35,6 +36,13 @@ module _ (F : Form) (apart : Apart F) (n : ℕ) where
 
   sound-of : (s : Tables) → first (tableRows F n s) ≡ 0 → Sound (F .base) s
   sound-of s e = soundTest-sound (F .base) s (fits s (bounds-of s e)) (tableRows-none F n s e .1)
+
+  good-of : (s : Tables) → first (tableRows F n s) ≡ 0 → Good F n s
+  good-of s e = record { bounds = bounds-of s e; sound = sound-of s e }
+
+  -- and none but good tables are given an answer that is no refusal
+  pub accepted-good : (s : Tables) (x : Step) (a : Answer) → (Refusal a → ⊥) → step F n s x .answer ≡ a → Good F n s
+  accepted-good s x a h e = good-of s (let-through F s x (tableRows F n s) a h e .0)
 
   -- each step of any task, with any numbers, from any tables: those that are damaged or out of bounds stay as they were
   pub took-step : (s : Tables) (x : Step) → Took (F .base) s (actor x) (step F n s x .after)
@@ -69,15 +77,7 @@ module _ (F : Form) (apart : Apart F) (n : ℕ) where
   -- and a ready task may act: none of the first five is given
   pub ready-passes : (s : Tables) → Good F n s → (t : ℕ) → taskAt s t ≡ readyWord → (rows : List Row) → first (tableRows F n s ++ (actorRows (s .tasks) t ++ rows)) ≡ first rows
   unfolding first
-  ready-passes s g t r rows =
-      let b : t < length (s .tasks) = within-table (s .tasks) t (λ (z : taskAt s t ≡ 0). omega arith) in
-      rw (
-        g .bounds,
-        sound-soundTest (F .base) s (g .sound),
-        lt-ltb t (length (s .tasks)) b,
-        live-yes (taskAt s t) (inl r),
-        lt-leb firstWait (taskAt s t) (omega arith),
-      )
+  ready-passes s g t r rows = rw (g .bounds, sound-soundTest (F .base) s (g .sound)) (ready-acts (s .tasks) t r rows)
 
   pub good-step : (s : Tables) (x : Step) → Good F n s → Good F n (step F n s x .after)
   good-step s x g =

@@ -21,4 +21,5 @@ pub mod Blame
 pub mod Policy
 pub mod Once
 pub mod Blocked
+pub mod Rings
 pub mod Promises

@@ -3,7 +3,7 @@
 use mathlib.Core.Path.{_≡_, refl, sym, ap, subst, _∙_}
 use mathlib.Core.List.{List, []}
 use mathlib.Core.Bool.{Bool, true}
-use Prim.Native.Nat.{ℕ, _-_, _<_}
+use Prim.Native.Nat.{ℕ, _<_}
 use native.Mathlib.Omega.{arith}
 use native.Mathlib.Nat.{sub-zero}
 use native.Mathlib.Decide.{ℕ-discrete}
@@ -14,7 +14,8 @@ use Rattle.words.specs.Lists.{is, places, In}
 use Rattle.words.proofs.ListLaws.{is-hit, is-true, places-at, at-places, places-rising, within-table}
 use Rattle.rules.specs.Tables.{Tables, taskAt, promiseAt}
 use Rattle.rules.specs.Sound.{Sound}
-use Rattle.rules.specs.Refusals.{first, tableRows, ownRows}
+use Rattle.rules.specs.Answers.{byNumber}
+use Rattle.rules.specs.Refusals.{Row, first, tableRows, ownRows}
 use Rattle.rules.specs.Steps.{Step, step-set, step-end, Outcome, awaits, withEnded, guarded, rows, effect, raw, step}
 use Rattle.rules.specs.Demands.{Refusal, plain, Named, Woken}
 use Rattle.rules.specs.declared.Answer.{Answer}
@@ -38,11 +39,16 @@ passes-place f ws x h e =
 guarded-let : (f : ℕ → Answer) → ((q : ℕ) → Refusal (f q)) → (r : ℕ) (s : Tables) (o : Outcome) → (Refusal (guarded f r s o .answer) → ⊥) → (r ≡ 0) × (guarded f r s o ≡ o)
 guarded-let f refuses r s o = guarded-by (λ (x : Outcome). (Refusal (x .answer) → ⊥) → (r ≡ 0) × (x ≡ o)) f r s o (λ n h. absurd (h (refuses r))) (λ z h. (z, refl))
 
+-- whatever rows stand before those of the step
+pub let-through : (F : Form) (s : Tables) (x : Step) (xs : List Row) (a : Answer) → (Refusal a → ⊥) → guarded byNumber (first xs) s (raw F s x) .answer ≡ a
+    → (first xs ≡ 0) × (first (rows F s x) ≡ 0) × (guarded byNumber (first xs) s (raw F s x) ≡ effect F s x)
+let-through F s x xs a h e =
+    let (y, o) = guarded-let _ plain (first xs) s (raw F s x) (λ w. h (subst Refusal e w)) in
+    let (z, o₁) = guarded-let _ (stepRefused-refuses F s x) (first (rows F s x)) s (effect F s x) (λ w. h (subst Refusal (sym (ap (λ (y : Outcome). y .answer) o) ∙ e) w)) in
+    (y, z, o ∙ o₁)
+
 pub accepted : (F : Form) (n : ℕ) (s : Tables) (x : Step) (a : Answer) → (Refusal a → ⊥) → step F n s x .answer ≡ a → (first (rows F s x) ≡ 0) × (step F n s x ≡ effect F s x)
-accepted F n s x a h e =
-    let (z, o) = guarded-let _ plain (first (tableRows F n s)) s (raw F s x) (λ w. h (subst Refusal e w)) in
-    let (z₁, o₁) = guarded-let _ (stepRefused-refuses F s x) (first (rows F s x)) s (effect F s x) (λ w. h (subst Refusal (sym (ap (λ (y : Outcome). y .answer) o) ∙ e) w)) in
-    (z₁, o ∙ o₁)
+accepted F n s x a h e = let (y, z, o) = let-through F s x (tableRows F n s) a h e in (z, o)
 
 -- ---- set
 

@@ -4,13 +4,13 @@ use mathlib.Core.Path.{_≡_, refl, sym, ap, subst, _∙_}
 use mathlib.Core.Logic.{_≢_}
 use mathlib.Core.List.{List, [], _∷_, _++_}
 use mathlib.Core.Bool.{Bool, true, false, cond, not}
-use Prim.Native.Nat.{ℕ, zero, suc, _+_, _-_, _≤_, _<_}
+use Prim.Native.Nat.{ℕ, zero, suc, _+_, _≤_, _<_}
 use native.Mathlib.Omega.{arith}
 use native.Mathlib.Decide.{ℕ-discrete}
-use lib.Dec.{eqb, leb}
+use lib.Dec.{eqb}
 use borrow.Author.Tests.{eqb-false, eq-eqb, ne-eqb, lt-ltb}
 use lib.ListN.{length, getD}
-use Rattle.words.specs.Words.{Form, inBounds, setWord, firstOwned}
+use Rattle.words.specs.Words.{Form, inBounds}
 use Rattle.words.specs.Lists.{In, top, pop}
 use Rattle.words.proofs.BoolLaws.{clash}
 use Rattle.words.proofs.ListLaws.{in-left, in-right}
@@ -18,11 +18,11 @@ use Rattle.rules.specs.Tables.{Tables, promiseAt, blamedTask}
 use Rattle.rules.specs.Sound.{soundTest}
 use Rattle.rules.specs.Answers.{numberOf, valuesOf, byNumber, refusedAtWith}
 use Rattle.rules.specs.Refusals.{Row, first, earlier, tableRows, entryRows, entryRefusal, firstBad}
-use Rattle.rules.specs.Steps.{Step, step-new, step-set, step-get, step-async, step-end, Outcome, outcome, Found, astray, back, free, walk, pairs, withWait, followed, got, guarded, entryRefused, started, rows, stepRefused, effect, raw, step}
+use Rattle.rules.specs.Steps.{Step, step-new, step-set, step-get, step-async, step-end, Outcome, outcome, got, guarded, entryRefused, started, rows, stepRefused, effect, raw, step}
 use Rattle.rules.specs.Demands.{numbers, paperRows, paperEntryRows, paperNumbers, FirstGiven, now, later, NoneGiven, no-row, not-this, BadPlace, Refusal, plain, placed, blamed, blamed-at, HowRefused, by-row, for-entry}
 use Rattle.rules.specs.declared.Answer.{Answer}
 use Rattle.rules.specs.declared.Answer.the-variants.{Opened, Made, Set, Value, Blamed, Waits, Cycle, Started, Ended, Refused, RefusedAt, RefusedBlamed, RefusedBlamedAt}
-use Rattle.rules.proofs.GuardLaws.{guarded-by, guarded-none, guarded-some, started-by}
+use Rattle.rules.proofs.GuardLaws.{guarded-by, guarded-none, guarded-some, got-cases, started-by}
 use Rattle.rules.proofs.AnswerLaws.{at-with-by, at-with-number, at-with-same, at-with-refuses, at-with-plain, stepRefused-refuses, stepRefused-number, stepRefused-plain}
 use Rattle.rules.proofs.PlaceLaws.{firstBad-place}
 use Rattle.rules.proofs.RefusalLaws.{Numbered, row, first-append, actorRows-numbered, firstBad-before}
@@ -123,19 +123,6 @@ pub step-guarded : (F : Form) (n : ℕ) (s : Tables) (x : Step) → step F n s x
 step-guarded F n s x = guarded-joined byNumber (stepRefused F s x) (rows F s x) s (effect F s x) (tableRows-numbered F n s) (tables-plain F n s x)
 
 -- ---- what an effect answers
-
--- a get that is not refused answers value, blamed, cycle or waits
-pub got-cases : (Q : Outcome → Type 0) (B : ℕ) (s : Tables) (t p w : ℕ) → Q (outcome Value s []) → ((b : ℕ) → Q (outcome (Blamed b) s []))
-    → ((k : ℕ) → Q (outcome (Cycle k) s (pairs k s t p))) → ((k : ℕ) → Q (outcome (Waits k) (withWait s t p) [])) → Q (got B s t p w)
-unfolding got followed
-got-cases Q B s t p w v b c k = go (eqb w setWord) (leb B w) (walk (length (s .tasks)) s t (w - firstOwned) 1)
-  where
-    go : (x y : Bool) (f : Found) → Q (cond x (outcome Value s []) (cond y (outcome (Blamed (w - B)) s []) (followed s t p f)))
-    go true y f = v
-    go false true f = b (w - B)
-    go false false (back i) = c i
-    go false false (free i) = k i
-    go false false astray = k (length (s .tasks))
 
 started-refuses-at : (B : ℕ) (s : Tables) (t c : ℕ) (list : List ℕ) (i r : ℕ) → started B s t c list i .answer ≡ Refused r → ⊥
 started-refuses-at B s t c list i r =

@@ -20,12 +20,11 @@ use Rattle.rules.specs.Demands.{Refusal, plain}
 use Rattle.rules.specs.Published.{NewRule, SetRule, SpawnRule, GetRule, EndRule, Asserted}
 use Rattle.rules.specs.declared.Answer.{Answer}
 use Rattle.rules.specs.declared.Answer.the-variants.{Made, Set, Value, Blamed, Started, Ended}
-use Rattle.rules.proofs.GuardLaws.{guarded-by, started-by}
+use Rattle.rules.proofs.GuardLaws.{guarded-by, got-cases, started-by}
 use Rattle.rules.proofs.Accepted.{entries-good}
 use Rattle.rules.proofs.AnswerLaws.{at-with-refuses, stepRefused-refuses}
 use Rattle.rules.proofs.Named.{accepted}
 use Rattle.words.proofs.BoolLaws.{clash}
-use Rattle.rules.proofs.Order.{got-cases}
 use Rattle.rules.proofs.RefusalLaws.{actorRows-none, childRows-none, newRows-none, getRows-none, ownRows-none}
 use Rattle.rules.proofs.StepMoves.{read-given, blame-miss}
 

@@ -7,16 +7,16 @@ use mathlib.Core.Bool.{true}
 use Prim.Native.Nat.{ℕ, _+_, _*_, _≤_, _<_}
 use lib.Dec.{lit≤}
 use lib.ListN.{length, getD, replicate}
-use Rattle.words.specs.Words.{Form, small, unusedWord, readyWord, endedWord, waitsOn, unmadeWord, setWord, firstOwned, ownedBy, blamedOn}
+use Rattle.words.specs.Words.{Form, small, inBounds, unusedWord, readyWord, endedWord, waitsOn, unmadeWord, setWord, firstOwned, ownedBy, blamedOn}
 use Rattle.words.specs.Lists.{In}
 use Rattle.rules.specs.Tables.{Tables, tables, taskAt, promiseAt, liveTasks, closed, blamedTask, fresh}
 use Rattle.rules.specs.Chains.{Chain, waits}
 use Rattle.rules.specs.Sound.{Live, Sound, soundTest}
 use Rattle.rules.specs.Answers.{numberOf, valuesOf, wordCount, refusedAtWith}
 use Rattle.rules.specs.Refusals.{tableRows, entryRows}
-use Rattle.rules.specs.Steps.{Step, step-new, step-set, step-get, step-async, step-end, Outcome, outcome, withWait, pairs, rows, stepRefused, step, run}
-use Rattle.rules.specs.ProvedSet.{provedSet, blamedSet, taken, expected}
-use Rattle.rules.specs.Demands.{Apart, Good, numbers, paperRows, paperEntryRows, paperNumbers, FirstGiven, NoneGiven, BadPlace, Refusal, HowRefused, OwnersFrom, Alarm, Wait, Named, Woken, Demand3}
+use Rattle.rules.specs.Steps.{Step, step-new, step-set, step-get, step-async, step-end, Outcome, outcome, withWait, pairs, rows, stepRefused, step, untested, ran, run}
+use Rattle.rules.specs.ProvedSet.{provedSet, blamedSet, ringSet, taken, takenUntested, expected}
+use Rattle.rules.specs.Demands.{Apart, Good, numbers, paperRows, paperEntryRows, paperNumbers, FirstGiven, NoneGiven, BadPlace, Refusal, HowRefused, OwnersFrom, Alarm, Wait, Named, Woken, Demand3, hadWaited, Pair, Stands, RunsInto}
 use Rattle.rules.specs.Published.{NewRule, SetRule, SpawnRule, GetRule, EndRule, Asserted}
 use Rattle.rules.specs.Contracts.{Gives}
 use Rattle.rules.specs.Sessions.{Freshens}
@@ -33,6 +33,7 @@ use Rattle.rules.proofs.Named as named
 use Rattle.rules.proofs.Once as once
 use Rattle.rules.proofs.Order as order
 use Rattle.rules.proofs.Policy as policy
+use Rattle.rules.proofs.Rings as rings
 use Rattle.rules.proofs.SoundTest as test
 use Rattle.rules.proofs.Waiting as waiting
 
@@ -163,38 +164,23 @@ module _ (F : Form) (n : ℕ) (s : Tables) where
 
 -- ---- DEMAND 2
 
+-- in good tables ..
 module _ (F : Form) (apart : Apart F) (n : ℕ) (s : Tables) (good : Good F n s) where
-  -- "if p is set, answer value. If p is blamed on b, answer blamed b": exactly then, and nothing changes
+  -- "if p is set, answer value. If p is blamed on b, answer blamed b", and nothing changes
   pub value-if-set : (t p : ℕ) → taskAt s t ≡ readyWord → promiseAt s p ≡ setWord → step F n s (step-get t p) ≡ outcome Value s []
   value-if-set = alarms.get-value F apart n s good
 
-  pub only-if-set : (t p : ℕ) → step F n s (step-get t p) .answer ≡ Value → (taskAt s t ≡ readyWord) × (promiseAt s p ≡ setWord)
-  only-if-set = alarms.value-means F apart n s good
-
   pub blamed-if-blamed : (t p b : ℕ) → taskAt s t ≡ readyWord → promiseAt s p ≡ blamedOn (F .base) b → step F n s (step-get t p) ≡ outcome (Blamed b) s []
   blamed-if-blamed = alarms.get-blamed F apart n s good
-
-  pub only-if-blamed : (t p b : ℕ) → step F n s (step-get t p) .answer ≡ Blamed b → (taskAt s t ≡ readyWord) × (promiseAt s p ≡ blamedOn (F .base) b)
-  only-if-blamed = alarms.blamed-means F apart n s good
 
   -- "A get alarms exactly when the chain of owners and waits leads back to the asker", and then reports that ring and changes no table
   pub alarms-if-back : (t p : ℕ) (l : List ℕ) → taskAt s t ≡ readyWord → OwnersFrom s p l → In t l → step F n s (step-get t p) ≡ outcome (Cycle (length l)) s (pairs (length l) s t p)
   alarms-if-back = alarms.get-alarms F apart n s good
 
-  pub only-if-back : (t p k : ℕ) → step F n s (step-get t p) .answer ≡ Cycle k → Alarm s t p k (step F n s (step-get t p) .words)
-  only-if-back = alarms.alarm-means F apart n s good
-
-  pub an-alarm-changes-no-table : (t p k : ℕ) → step F n s (step-get t p) .answer ≡ Cycle k → step F n s (step-get t p) .after ≡ s
-  an-alarm-changes-no-table = alarms.alarm-unchanged F apart n s good
-
   -- otherwise it waits, and the owners reached are its chain
   pub waits-if-not-back : (t p : ℕ) (l : List ℕ) → taskAt s t ≡ readyWord → OwnersFrom s p l → (In t l → ⊥)
       → (step F n s (step-get t p) ≡ outcome (Waits (length l)) (withWait s t p) []) × Chain (waits (withWait s t p)) t l
   waits-if-not-back = alarms.get-waits F apart n s good
-
-  -- and only then: the owners reached are as many as it answers, come to a ready task and do not lead back to the asker
-  pub waits-only-if-not-back : (t p k : ℕ) → step F n s (step-get t p) .answer ≡ Waits k → Wait s t p k
-  waits-only-if-not-back = alarms.wait-means F apart n s good
 
   -- the owners from a promise: one list for each owned promise, with at most as many as there are live tasks
   pub owners-exist : (p u : ℕ) → u < length (s .tasks) → promiseAt s p ≡ ownedBy u → (l : List ℕ) × OwnersFrom s p l
@@ -206,10 +192,28 @@ module _ (F : Form) (apart : Apart F) (n : ℕ) (s : Tables) (good : Good F n s)
   pub owners-at-most-live : (p : ℕ) (l : List ℕ) → OwnersFrom s p l → length l ≤ liveTasks s
   owners-at-most-live = alarms.owners-bound s
 
+-- .. and exactly then, whatever the tables
+module _ (F : Form) (apart : Apart F) (n : ℕ) (s : Tables) where
+  pub only-if-set : (t p : ℕ) → step F n s (step-get t p) .answer ≡ Value → (taskAt s t ≡ readyWord) × (promiseAt s p ≡ setWord)
+  only-if-set = alarms.value-means F apart n s
+
+  pub only-if-blamed : (t p b : ℕ) → step F n s (step-get t p) .answer ≡ Blamed b → (taskAt s t ≡ readyWord) × (promiseAt s p ≡ blamedOn (F .base) b)
+  only-if-blamed = alarms.blamed-means F apart n s
+
+  pub only-if-back : (t p k : ℕ) → step F n s (step-get t p) .answer ≡ Cycle k → Alarm s t p k (step F n s (step-get t p) .words)
+  only-if-back = alarms.alarm-means F apart n s
+
+  pub an-alarm-changes-no-table : (t p k : ℕ) → step F n s (step-get t p) .answer ≡ Cycle k → step F n s (step-get t p) .after ≡ s
+  an-alarm-changes-no-table = alarms.alarm-unchanged F apart n s
+
+  -- the owners reached are as many as it answers, come to a ready task and do not lead back to the asker
+  pub waits-only-if-not-back : (t p k : ℕ) → step F n s (step-get t p) .answer ≡ Waits k → Wait s t p k
+  waits-only-if-not-back = alarms.wait-means F apart n s
+
   -- "A task that ends still owning promises is named for exactly those": these become blamed on it, who waited on them becomes ready, it has ended, and no other word
   -- changes
   pub named-for-exactly-those : (t m k : ℕ) → step F n s (step-end t) .answer ≡ Ended m k → Named (F .base) s t m k (step F n s (step-end t))
-  named-for-exactly-those = named.end-names F n s (good .sound)
+  named-for-exactly-those t m k e = named.end-names F n s (kept.accepted-good F apart n s (step-end t) (Ended m k) (λ r. elim r [ ]) e .sound) t m k e
 
   -- a set makes ready exactly those who waited on it; it is set, and no other word changes
   pub wakes-exactly-those : (t p m : ℕ) → step F n s (step-set t p) .answer ≡ Set m → Woken s p m (step F n s (step-set t p))
@@ -293,3 +297,55 @@ module _ (F : Form) (apart : Apart F) (n : ℕ) (s : Tables) where
   -- and after any steps whoever sets or lists the promise is told the same task
   pub the-blame-stays : Good F n s → (xs : List Step) (p b : ℕ) → promiseAt s p ≡ blamedOn (F .base) b → promiseAt (run F n s xs) p ≡ blamedOn (F .base) b
   the-blame-stays g xs = blame.blame-stays F apart n s xs g
+
+-- ---- REQUEST 4, "Show that the alarm is real"
+
+pub the-ring-set : map takenUntested ringSet ≡ map expected ringSet
+the-ring-set = cases.proved-sets .2
+
+-- "the step rules, read without the soundness test" are `untested` (specs/Steps.antt): in sound tables the same rules
+pub untested-is-the-same-where-sound : (F : Form) (n : ℕ) (s : Tables) → Sound (F .base) s → (x : Step) → untested F n s x ≡ step F n s x
+untested-is-the-same-where-sound = rings.untested-sound
+
+-- whatever the tables, if the get of p by t alarms, and whatever steps might have followed
+module _ (F : Form) (apart : Apart F) (n : ℕ) (s : Tables) (t p k : ℕ) (alarm : step F n s (step-get t p) .answer ≡ Cycle k) (xs : List Step) where
+  -- the ring that the alarm reports
+  abbrev ring : List ℕ
+  ring = step F n s (step-get t p) .words
+
+  -- "had the alarmed wait been entered anyway, then after any further accepted steps": refused and alarmed ones may be among them
+  abbrev later : Tables
+  later = hadWaited F n s t p xs
+
+  -- "every task of the reported ring would still wait on the same promise"
+  pub the-ring-still-waits : (u q : ℕ) → Pair u q ring → taskAt later u ≡ waitsOn q
+  the-ring-still-waits = rings.alarm-real F apart n s t p k alarm xs
+
+  -- and the next task of the ring still owns it
+  pub the-ring-stands : Stands later t p ring
+  the-ring-stands = rings.alarm-stays F apart n s t p k alarm xs
+
+  in-bounds : inBounds F (length (later .tasks)) (length (later .promises)) n ≡ true
+  in-bounds = rings.alarm-bounds F apart n s t p k alarm xs
+
+  -- "An outsider's get whose chain runs into the ring counts as a wait entered": it answers waits, with the number of all tasks, and from then on the outsider waits too
+  pub an-outsiders-wait-is-entered : (v q u : ℕ) → taskAt later v ≡ readyWord → promiseAt later q ≡ ownedBy u → RunsInto later ring u
+      → (untested F n later (step-get v q) ≡ outcome (Waits (length (later .tasks))) (withWait later v q) [])
+      × ((ys : List Step) → taskAt (ran (untested F n) (withWait later v q) ys) v ≡ waitsOn q)
+  an-outsiders-wait-is-entered v q u r o i = (
+    rings.outsider-entered later t p ring the-ring-stands F n apart in-bounds v q u r o i,
+    rings.outsider-stays later t p ring the-ring-stands F n v q u r o i,
+  )
+
+  -- so does everybody who waited for a task of the ring already
+  pub who-runs-into-the-ring-still-waits : (v q : ℕ) → RunsInto later ring v → taskAt later v ≡ waitsOn q → (ys : List Step) → taskAt (ran (untested F n) later ys) v ≡ waitsOn q
+  who-runs-into-the-ring-still-waits = rings.into-stays later t p ring the-ring-stands F n
+
+  -- with the test every step on these tables is refused by 2
+  pub the-test-finds-the-ring : (x : Step) → step F n later x ≡ outcome (Refused 2) later []
+  the-test-finds-the-ring = rings.ring-refused later t p ring the-ring-stands F n apart in-bounds
+
+-- an alarm of the rules without the test, on a promise that a task owns, is as real, whatever the tables
+pub real-without-the-test : (F : Form) → Apart F → (n : ℕ) (s : Tables) (t p k u : ℕ) → u < length (s .tasks) → promiseAt s p ≡ ownedBy u
+    → untested F n s (step-get t p) .answer ≡ Cycle k → (xs : List Step) → Stands (hadWaited F n s t p xs) t p (untested F n s (step-get t p) .words)
+real-without-the-test = rings.untested-stays

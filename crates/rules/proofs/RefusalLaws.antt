@@ -8,9 +8,9 @@ use native.Mathlib.Omega.{arith}
 use native.Mathlib.Decide.{ℕ-discrete}
 use native.Mathlib.Numerals.{add-one}
 use lib.Dec.{eqb, leb, ltb}
-use borrow.Author.Tests.{eqb-true, eqb-false, ltb-true, leb-true, eq-eqb, ne-eqb, lt-ltb, le-leb}
+use borrow.Author.Tests.{eqb-true, eqb-false, ltb-true, leb-true, eq-eqb, ne-eqb, lt-ltb, le-leb, lt-leb}
 use lib.ListN.{length, getD}
-use Rattle.words.specs.Words.{readyWord, unusedWord, unmadeWord, setWord, ownedBy}
+use Rattle.words.specs.Words.{unusedWord, readyWord, firstWait, unmadeWord, setWord, ownedBy}
 use Rattle.words.specs.Lists.{allBelow}
 use Rattle.words.proofs.BoolLaws.{or-split, true-is-not-false}
 use Rattle.words.proofs.ListLaws.{within-table}
@@ -73,6 +73,13 @@ actorRows-past ts t rows three four five e =
 
 pub actorRows-none : (ts : List ℕ) (t : ℕ) (rows : List Row) → first (actorRows ts t ++ rows) ≡ 0 → Acts ts t × (first rows ≡ 0)
 actorRows-none ts t rows e = actorRows-past ts t rows (eqb-false 3 0 refl) (eqb-false 4 0 refl) (eqb-false 5 0 refl) e
+
+-- a ready task may act
+pub ready-acts : (ts : List ℕ) (t : ℕ) → getD ts t 0 ≡ readyWord → (rows : List Row) → first (actorRows ts t ++ rows) ≡ first rows
+unfolding first
+ready-acts ts t r rows =
+    let b : t < length ts = within-table ts t (λ (z : getD ts t 0 ≡ 0). omega arith) in
+    rw (lt-ltb t (length ts) b, eq-eqb (getD ts t 0) readyWord r, lt-leb firstWait (getD ts t 0) (omega arith))
 
 -- ---- the other numbers
 

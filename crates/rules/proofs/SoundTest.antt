@@ -24,7 +24,7 @@ use Rattle.rules.proofs.WalkLaws.{comes-chain, chain-comes}
 
 -- ---- the bound
 
-pub live-yes : (w : ℕ) → Live w → live w ≡ true
+live-yes : (w : ℕ) → Live w → live w ≡ true
 live-yes w (inl e) = or-left _ _ (eq-eqb w readyWord e)
 live-yes w (inr h) = or-right (eqb w readyWord) _ (le-leb firstWait w h)
 

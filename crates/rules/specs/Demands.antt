@@ -7,14 +7,18 @@
 --   BadPlace B s t list i               i is the first bad place of an async list
 --   Refusal a, HowRefused F s x a       the answer a is a refusal; it refuses the step x by a row, or for an entry of a list
 --   OwnersFrom s p l                    l are the owners that follow from p, to a ready task
---   Ring s t p l ws                     ws are the pairs of the ring that t would close by waiting on p
+--   LeadsTo s t v p ws                  from v, which waits on p, the pairs ws lead to t
+--   Stands s t p ws                     the ring of the pairs ws stands: from t, which waits on p, they lead back to t
 --   Alarm, Wait, Named, Woken, Demand3  what an alarm, a wait, an end, a set means; demand 3
+--   hadWaited F n s t p xs              the tables, had t waited on p and the steps xs followed, without the soundness test
+--   Pair u q ws                         u and q are a pair of the report ws
+--   RunsInto s ws v                     the chain of v runs into the ring of the pairs ws
 -- Assumes nothing.
 use mathlib.Core.Path.{_≡_}
 use mathlib.Core.Logic.{_≢_}
 use mathlib.Core.List.{List, [], _∷_, _++_}
 use mathlib.Core.Bool.{true, false}
-use Prim.Native.Nat.{ℕ, suc, _+_, _-_, _≤_, _<_}
+use Prim.Native.Nat.{ℕ, suc, _+_, _≤_, _<_}
 use lib.ListN.{length, take}
 use Rattle.words.specs.Words.{Form, inBounds, readyWord, endedWord, waitsOn, setWord, firstOwned, ownedBy, blamedOn}
 use Rattle.words.specs.Lists.{In, Rising}
@@ -23,7 +27,7 @@ use Rattle.rules.specs.Chains.{Chain, chainEnd, waits}
 use Rattle.rules.specs.Sound.{Live, Sound}
 use Rattle.rules.specs.Answers.{refusedAtWith}
 use Rattle.rules.specs.Refusals.{Row, entryRows}
-use Rattle.rules.specs.Steps.{Step, step-new, step-set, step-get, step-async, step-end, actor, Outcome, stepRefused, step, run}
+use Rattle.rules.specs.Steps.{Step, step-new, step-set, step-get, step-async, step-end, actor, Outcome, withWait, stepRefused, step, untested, ran, run}
 use Rattle.rules.specs.declared.Answer.{Answer}
 use Rattle.rules.specs.declared.Answer.the-variants.{Ended, Refused, RefusedAt, RefusedBlamed, RefusedBlamedAt}
 
@@ -93,19 +97,23 @@ pub data HowRefused (F : Form) (s : Tables) (x : Step) : Answer → Type 0 where
 pub data OwnersFrom (s : Tables) (p : ℕ) : List ℕ → Type 0 where
   owners : {u : ℕ} {l : List ℕ} → u < length (s .tasks) → promiseAt s p ≡ ownedBy u → Chain (waits s) u l → OwnersFrom s p (u ∷ l)
 
--- "k pairs: t and p, then each next task on the way and what it awaits, up to the one that awaits a promise of t"
-pub data Ring (s : Tables) : ℕ → ℕ → List ℕ → List ℕ → Type 0 where
-  closes : {v p u : ℕ} → promiseAt s p ≡ ownedBy u → Ring s v p (u ∷ []) (v ∷ p ∷ [])
-  leads : {v p u q : ℕ} {l ws : List ℕ} → promiseAt s p ≡ ownedBy u → taskAt s u ≡ waitsOn q → Ring s u q l ws → Ring s v p (u ∷ l) (v ∷ p ∷ ws)
+-- "k pairs: t and p, then each next task on the way and what it awaits, up to the one that awaits a promise of t": v waits on p, the owner of p on the promise that it
+-- is shown with, and so on
+pub data LeadsTo (s : Tables) (t : ℕ) : ℕ → ℕ → List ℕ → Type 0 where
+  at-last : {v p : ℕ} → taskAt s v ≡ waitsOn p → promiseAt s p ≡ ownedBy t → LeadsTo s t v p (v ∷ p ∷ [])
+  and-then : {v p u q : ℕ} {ws : List ℕ} → taskAt s v ≡ waitsOn p → promiseAt s p ≡ ownedBy u → u ≢ t → LeadsTo s t u q ws → LeadsTo s t v p (v ∷ p ∷ ws)
 
--- t gets p and alarms after k owners: t is ready and not refused, the owners from p lead back to t, and the report shows that ring
+abbrev pub Stands : Tables → ℕ → ℕ → List ℕ → Type 0
+Stands s t p ws = LeadsTo s t t p ws
+
+-- t gets p and alarms after k owners: t is ready and not refused, the owners from p lead back to t, and the report shows the ring that would stand if t waited on p
 pub record Alarm (s : Tables) (t p k : ℕ) (ws : List ℕ) : Type 0 where
   pub ready : taskAt s t ≡ readyWord
   pub links : List ℕ
   pub owners : OwnersFrom s p links
   pub back : chainEnd t links ≡ t
   pub count : k ≡ length links
-  pub ring : Ring s t p links ws
+  pub ring : Stands (withWait s t p) t p ws
 
 -- t gets p and waits after k owners: t is ready and not refused, and the owners from p come to a ready task without leading back to t
 pub record Wait (s : Tables) (t p k : ℕ) : Type 0 where
@@ -172,3 +180,19 @@ pub record Demand3 (F : Form) (n : ℕ) (s : Tables) : Type 0 where
   -- "ending its k tasks in turn, farthest first, makes the waiter ready at the k-th end and no sooner"
   pub in-turn : (v : ℕ) (l : List ℕ) → Chain (waits s) v l
       → AllEnd F n s (ends l) × ((j : ℕ) → j < length l → taskAt (run F n s (take j (ends l))) v ≡ taskAt s v) × (taskAt (run F n s (ends l)) v ≡ readyWord)
+
+-- ---- request 4: "Show that the alarm is real"
+
+-- "had the alarmed wait been entered anyway, then after any further accepted steps", by "the step rules, read without the soundness test"
+abbrev pub hadWaited : Form → ℕ → Tables → ℕ → ℕ → List Step → Tables
+hadWaited F n s t p xs = ran (untested F n) (withWait s t p) xs
+
+-- in the pairs that an alarm reports, the task u is shown with the promise q
+pub data Pair (u q : ℕ) : List ℕ → Type 0 where
+  this-pair : {ws : List ℕ} → Pair u q (u ∷ q ∷ ws)
+  later-pair : {v p : ℕ} {ws : List ℕ} → Pair u q ws → Pair u q (v ∷ p ∷ ws)
+
+-- v is a task of the ring, or waits on a promise whose owner's chain runs into it
+pub data RunsInto (s : Tables) (ws : List ℕ) : ℕ → Type 0 where
+  of-the-ring : {v q : ℕ} → Pair v q ws → RunsInto s ws v
+  behind-it : {v u : ℕ} (q : ℕ) → taskAt s v ≡ waitsOn q → promiseAt s q ≡ ownedBy u → RunsInto s ws u → RunsInto s ws v

@@ -2,7 +2,8 @@
 --
 --   Row, first rows        a number and whether it applies; the first that applies, 0 where none does
 --   earlier a b            the first of two refusals, where 0 is none
---   tableRows F n s        1 and 2, of all steps; n is the report's length
+--   boundsRows F n s       1, of all steps; n is the report's length
+--   tableRows F n s        1 and 2, of all steps
 --   actorRows ts t         3, 4 and 5, of all steps
 --   childRows ts c         11 and 12
 --   newRows ps p           6 and 7
@@ -11,7 +12,7 @@
 --   entryRows B ps t l i   6, 8, 9, 17, 10 and 13, of entry i of an async list
 --   firstBad f n i         the first place from i on, below n, whose refusal by f is not 0; n where there is none
 -- Assumes nothing.
-use Prim.Native.Nat.{ℕ, zero, suc, _-_}
+use Prim.Native.Nat.{ℕ, zero, suc}
 use mathlib.Core.List.{List, [], _∷_, _++_}
 use mathlib.Core.Bool.{Bool, cond, not}
 use lib.Dec.{eqb, leb, ltb}
@@ -32,10 +33,15 @@ first ((r, applies) ∷ rows) = cond applies r (first rows)
 unfoldable pub earlier : ℕ → ℕ → ℕ
 earlier a b = cond (eqb a 0) b a
 
+abbrev pub boundsRows : Form → ℕ → Tables → List Row
+boundsRows F n s =
+    (1, not (inBounds F (length (s .tasks)) (length (s .promises)) n))  -- "T, P or report length is outside its bounds"
+    ∷ []
+
 abbrev pub tableRows : Form → ℕ → Tables → List Row
 tableRows F n s =
-    (1, not (inBounds F (length (s .tasks)) (length (s .promises)) n))  -- "T, P or report length is outside its bounds"
-    ∷ (2, not (soundTest (F .base) s))  -- "tables damaged"
+    boundsRows F n s
+    ++ (2, not (soundTest (F .base) s))  -- "tables damaged"
     ∷ []
 
 abbrev pub actorRows : List ℕ → ℕ → List Row

@@ -10,7 +10,9 @@
 --   entryRefused B s t l i  the answer that refuses an async for the entry i of its list
 --   effect F s x            what the step does where none of them applies
 --   raw F s x, step F n s x the rules without and with refusals 1 and 2; n is the report's length
---   run F n s xs            the tables after the steps xs
+--   untested F n s x        the rules without the soundness test
+--   ran f s xs              the tables after the steps xs, each taken by the rules f
+--   run F n s xs            the same by the rules
 -- Assumes nothing.
 use Prim.Native.Nat.{ℕ, zero, suc, _-_}
 use mathlib.Core.List.{List, [], _∷_, _++_}
@@ -22,7 +24,7 @@ use Rattle.words.specs.Lists.{is, places, replaced}
 use Rattle.rules.specs.Tables.{Tables, tables, promiseAt, waiting, awaitedBy, ownerOf, blamedTask}
 use Rattle.rules.specs.Sound.{Hop, ready, lost, to, hop}
 use Rattle.rules.specs.Answers.{byNumber, refusedWith, refusedAtWith}
-use Rattle.rules.specs.Refusals.{Row, first, tableRows, actorRows, childRows, newRows, getRows, ownRows, entryRefusal, firstBad}
+use Rattle.rules.specs.Refusals.{Row, first, boundsRows, tableRows, actorRows, childRows, newRows, getRows, ownRows, entryRefusal, firstBad}
 use Rattle.rules.specs.declared.Answer.{Answer}
 use Rattle.rules.specs.declared.Answer.the-variants.{Made, Set, Value, Blamed, Waits, Cycle, Started, Ended}
 
@@ -167,6 +169,13 @@ raw F s x = guarded (stepRefused F s x) (first (rows F s x)) s (effect F s x)
 abbrev pub step : Form → ℕ → Tables → Step → Outcome
 step F n s x = guarded byNumber (first (tableRows F n s)) s (raw F s x)
 
+-- 02, 4/13: "the step rules, read without the soundness test"
+abbrev pub untested : Form → ℕ → Tables → Step → Outcome
+untested F n s x = guarded byNumber (first (boundsRows F n s)) s (raw F s x)
+
+abbrev pub ran : (Tables → Step → Outcome) → Tables → List Step → Tables
+ran f s [] = s
+ran f s (x ∷ xs) = ran f (f s x .after) xs
+
 abbrev pub run : Form → ℕ → Tables → List Step → Tables
-run F n s [] = s
-run F n s (x ∷ xs) = run F n (step F n s x .after) xs
+run F n s xs = ran (step F n) s xs
