@@ -16,8 +16,9 @@ use Rattle.rules.specs.Tables.{Tables, taskAt, promiseAt, live}
 use Rattle.rules.specs.Chains.{Chain, here, Comes, chainEnd, view, waits}
 use Rattle.rules.specs.Sound.{Live, TaskWord, PromiseWord, unused, ready, ended, unmade, done, owned, blamed, Sound}
 use Rattle.rules.specs.Sound as sound
+use Rattle.rules.specs.Answers.{byNumber}
 use Rattle.rules.specs.Refusals.{first, entryRefusal, firstBad, newRows, getRows, ownRows, childRows}
-use Rattle.rules.specs.Steps.{Step, step-new, step-set, step-get, step-async, step-end, actor, Outcome, outcome, withMade, withSet, withWait, withStarted, withEnded, given, awaits, back, free, walk, followed, got, rows, effect, raw}
+use Rattle.rules.specs.Steps.{Step, step-new, step-set, step-get, step-async, step-end, actor, Outcome, outcome, withMade, withSet, withWait, withStarted, withEnded, given, awaits, back, free, walk, followed, got, guarded, rows, effect, raw}
 use Rattle.rules.specs.declared.Answer.the-variants.{Value, Blamed, Waits, Cycle}
 use Rattle.rules.proofs.GuardLaws.{guarded-is, got-cases, started-by}
 use Rattle.rules.proofs.Moves.{Moves, SoundMoves}
@@ -79,7 +80,7 @@ module _ (F : Form) (s : Tables) where
   did-raw x = guarded-is _ (first (rows F s x)) s (effect F s x) (Did (F .base) s x) nothing (did-effect x)
 
 -- the tables stay as long as they were
-pub did-lengths : {B : ℕ} {s s′ : Tables} {x : Step} → Did B s x s′ → (length (s′ .tasks) ≡ length (s .tasks)) × (length (s′ .promises) ≡ length (s .promises))
+did-lengths : {B : ℕ} {s s′ : Tables} {x : Step} → Did B s x s′ → (length (s′ .tasks) ≡ length (s .tasks)) × (length (s′ .promises) ≡ length (s .promises))
 did-lengths nothing = (refl, refl)
 did-lengths {s = s} (made {t = t} {p = p} a b c) = (refl, length-set (s .promises) p (ownedBy t))
 did-lengths {s = s} (was-set {p = p} a b c) = (length-replaced (is (waitsOn p)) readyWord (s .tasks), length-set (s .promises) p setWord)
@@ -90,7 +91,13 @@ did-lengths {B = B} {s = s} (has-ended {t = t} a) = (
   length-replaced (is (ownedBy t)) (blamedOn B t) (s .promises),
 )
 
--- and their words are as they were, or move as `Moves` says
+-- whatever refused the step before its own rows
+pub lengths-kept : (F : Form) (s : Tables) (x : Step) (r : ℕ)
+    → (length (guarded byNumber r s (raw F s x) .after .tasks) ≡ length (s .tasks)) × (length (guarded byNumber r s (raw F s x) .after .promises) ≡ length (s .promises))
+lengths-kept F s x r =
+    guarded-is _ r s (raw F s x) (λ (y : Tables). (length (y .tasks) ≡ length (s .tasks)) × (length (y .promises) ≡ length (s .promises))) (refl, refl) (λ z. did-lengths (did-raw F s x))
+
+-- their words are as they were, or move as `Moves` says
 pub did-moves : {B : ℕ} {s s′ : Tables} {x : Step} → Did B s x s′ → (s′ ≡ s) ⊎ Moves (length (s .tasks)) (length (s .promises)) B (view s) (view s′) (actor x)
 did-moves nothing = inl refl
 did-moves {B = B} {s = s} (made {t = t} {p = p} a b c) = inr (new-moves (length (s .tasks)) (length (s .promises)) B s t (a .below) (a .ready) p b c)

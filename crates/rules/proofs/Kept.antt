@@ -18,7 +18,7 @@ use Rattle.rules.specs.Steps.{Step, actor, raw, step, run}
 use Rattle.rules.specs.Demands.{Apart, Good, Refusal}
 use Rattle.rules.specs.declared.Answer.{Answer}
 use Rattle.rules.proofs.GuardLaws.{guarded-is}
-use Rattle.rules.proofs.Accepted.{Took, stayed, moved, took-raw}
+use Rattle.rules.proofs.Accepted.{lengths-kept, Took, stayed, moved, took-raw}
 use Rattle.rules.proofs.Moves.{sound-step}
 use Rattle.rules.proofs.GivesLaws.{tableRows-none}
 use Rattle.rules.proofs.Named.{let-through}
@@ -62,12 +62,8 @@ module _ (F : Form) (apart : Apart F) (n : ℕ) where
       (λ e. sound-by s (raw F s x .after) (actor x) (fits s (bounds-of s e)) sd (took-raw F s (fits s (bounds-of s e)) sd x))
 
   -- and as long as they were
-  lengths-by : (s s′ : Tables) (t : ℕ) → Took (F .base) s t s′ → (length (s′ .tasks) ≡ length (s .tasks)) × (length (s′ .promises) ≡ length (s .promises))
-  lengths-by s s′ t (stayed e) = (ap (λ (x : Tables). length (x .tasks)) e, ap (λ (x : Tables). length (x .promises)) e)
-  lengths-by s s′ t (moved e g st) = (e, g)
-
   pub step-lengths : (s : Tables) (x : Step) → (length (step F n s x .after .tasks) ≡ length (s .tasks)) × (length (step F n s x .after .promises) ≡ length (s .promises))
-  step-lengths s x = lengths-by s (step F n s x .after) (actor x) (took-step s x)
+  step-lengths s x = lengths-kept F s x (first (tableRows F n s))
 
   -- refusals 1 and 2 are not given to good tables
   pub good-passes : (s : Tables) → Good F n s → first (tableRows F n s) ≡ 0

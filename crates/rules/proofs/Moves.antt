@@ -19,6 +19,16 @@ det T s = record {
       omega (arith, k .owned, k′ .owned, ap (s .promise) e);
 }
 
+-- a link that stays: the word of the task that waits and of what it awaits are the same
+pub link-words : (T T′ : ℕ) (s s′ : View) (v q u : ℕ) → WaitsFor T s v q u → WaitsFor T′ s′ v q u
+    → (s′ .task v ≡ s .task v) × ((p : ℕ) → s .task v ≡ waitsOn p → s′ .promise p ≡ s .promise p)
+link-words T T′ s s′ v q u k k′ = (
+  k′ .waits ∙ sym (k .waits),
+  λ p (w : s .task v ≡ waitsOn p).
+      let e : q ≡ p = omega (arith, k .waits) in
+      subst (λ (x : ℕ). s′ .promise x ≡ s .promise x) e (k′ .owned ∙ sym (k .owned)),
+)
+
 -- ---- What an accepted step of t may do to a word
 
 pub data TaskMove (P B : ℕ) (s s′ : View) (t v : ℕ) : Type 0 where

@@ -13,17 +13,17 @@ use lib.Seq.{getD-set-same, getD-set-other}
 use Rattle.words.specs.Words.{Form, inBounds, readyWord, waitsOn, unmadeWord, firstOwned, ownedBy}
 use Rattle.words.proofs.ListLaws.{within-table}
 use Rattle.rules.specs.Tables.{Tables, taskAt, promiseAt}
-use Rattle.rules.specs.Chains.{Chain, here, link, view, waits}
+use Rattle.rules.specs.Chains.{WaitsFor, Chain, here, link, view, waits}
 use Rattle.rules.specs.Sound.{Sound, to, hop, soundTest}
 use Rattle.rules.specs.Refusals.{first, boundsRows, getRows}
 use Rattle.rules.specs.Steps.{Step, step-get, actor, outcome, withWait, astray, walk, followed, got, guarded, raw, step, untested, ran}
 use Rattle.rules.specs.Demands.{Apart, hadWaited, Pair, this-pair, later-pair, LeadsTo, at-last, and-then, Stands, RunsInto, of-the-ring, behind-it}
 use Rattle.rules.specs.declared.Answer.the-variants.{Waits, Cycle, Refused}
-use Rattle.rules.proofs.Accepted.{Did, did-raw, did-lengths, did-moves, got-owned}
+use Rattle.rules.proofs.Accepted.{Did, did-raw, lengths-kept, did-moves, got-owned}
 use Rattle.rules.proofs.Alarms.{followed-stands, alarm-means}
 use Rattle.rules.proofs.GuardLaws.{guarded-is, guarded-none}
 use Rattle.rules.proofs.Kept.{fits, accepted-good}
-use Rattle.rules.proofs.Moves.{Moves, frame}
+use Rattle.rules.proofs.Moves.{link-words, Moves, frame}
 use Rattle.rules.proofs.Named.{let-through}
 use Rattle.rules.proofs.RefusalLaws.{not-is-false, first-past, actorRows-none, ready-acts, made-passes}
 use Rattle.rules.proofs.SoundTest.{soundTest-sound, sound-soundTest}
@@ -44,7 +44,7 @@ ran-lengths : (F : Form) (n : ℕ) (s : Tables) (xs : List Step)
 ran-lengths F n s [] = (refl, refl)
 ran-lengths F n s (x ∷ xs) =
     let s′ = untested F n s x .after in
-    let (a, b) = guarded-is _ (first (boundsRows F n s)) s (raw F s x) (λ (y : Tables). (length (y .tasks) ≡ length (s .tasks)) × (length (y .promises) ≡ length (s .promises))) (refl, refl) (λ z. did-lengths (did-raw F s x)) in
+    let (a, b) = lengths-kept F s x (first (boundsRows F n s)) in
     let (c, d) = ran-lengths F n s′ xs in
     (c ∙ a, d ∙ b)
 
@@ -82,12 +82,9 @@ module _ (W : ℕ → Type 0) where
     same-moves : (B t : ℕ) (s′ : Tables) → Moves (length (s .tasks)) (length (s .promises)) B (view s) (view s′) t → Same s s′
     same-moves B t s′ mv v m =
         let (p, u, w, o, m′) = st v m in
-        let k = frame (length (s .tasks)) (length (s .promises)) B (view s) (view s′) t mv .keep v p u (not-ready t u (mv .acts) m′) (record { waits = w; owned = o; below = below u m′ }) in (
-          k .waits ∙ sym w,
-          λ q (z : taskAt s v ≡ waitsOn q).
-              let e : p ≡ q = omega arith in
-              subst (λ (x : ℕ). promiseAt s′ x ≡ promiseAt s x) e (k .owned ∙ sym o),
-        )
+        let k : WaitsFor (length (s .tasks)) (view s) v p u = record { waits = w; owned = o; below = below u m′ } in
+        link-words (length (s .tasks)) (length (s .tasks)) (view s) (view s′) v p u k
+        (frame (length (s .tasks)) (length (s .promises)) B (view s) (view s′) t mv .keep v p u (not-ready t u (mv .acts) m′) k)
 
     same-did : {B : ℕ} {s′ : Tables} {x : Step} → Did B s x s′ → Same s s′
     same-did {B} {s′} {x} d = go (did-moves d)

@@ -17,7 +17,7 @@ use Rattle.rules.specs.Demands.{Apart}
 use Rattle.rules.proofs.Accepted.{Took, stayed, moved}
 use Rattle.rules.proofs.GraphLaws.{Det, Frame, on-chain, unique, end-ready, ready-is-end, chain-stays, words-stay}
 use Rattle.rules.proofs.Kept.{took-step}
-use Rattle.rules.proofs.Moves.{det, frame}
+use Rattle.rules.proofs.Moves.{det, link-words, frame}
 use Rattle.rules.proofs.SoundTest.{chain-bound}
 
 -- while a task is live, some task is ready
@@ -62,13 +62,7 @@ module _ (B : ℕ) (s s′ : Tables) (t : ℕ) {v : ℕ} {l : List ℕ} (c : Cha
           → (taskAt s′ y ≡ taskAt s y) × ((p : ℕ) → taskAt s y ≡ waitsOn p → promiseAt s′ p ≡ promiseAt s p)
       go (inl r) =
           (fr .stay y (λ (z : y ≡ t). far (sym (ready-is-end (waits s) d c i r) ∙ z)) r ∙ sym r, λ p (w : taskAt s y ≡ waitsOn p). absurd (omega arith))
-      go (inr (q, u, k)) =
-          let k′ = words-stay (waits s) (graph (length (s .tasks)) (view s′)) t d fr c far i k in (
-            k′ .waits ∙ sym (k .waits),
-            λ p (w : taskAt s y ≡ waitsOn p).
-                let z : q ≡ p = omega (arith, k .waits) in
-                subst (λ (x : ℕ). promiseAt s′ x ≡ promiseAt s x) z (k′ .owned ∙ sym (k .owned)),
-          )
+      go (inr (q, u, k)) = link-words (length (s .tasks)) (length (s .tasks)) (view s) (view s′) y q u k (words-stay (waits s) (graph (length (s .tasks)) (view s′)) t d fr c far i k)
 
 pub chain-kept : (F : Form) → Apart F → (n : ℕ) (s : Tables) (x : Step) (v : ℕ) (l : List ℕ) → Chain (waits s) v l → actor x ≢ chainEnd v l
     → Chain (waits (step F n s x .after)) v l × ((y : ℕ) → In y (v ∷ l) → taskAt (step F n s x .after) y ≡ taskAt s y)

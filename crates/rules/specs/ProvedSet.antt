@@ -110,7 +110,7 @@ blamedSet =
     ∷ case oneBlamed 10 (step-async 0 2 (0 ∷ 0 ∷ 1 ∷ [])) (RefusedAt 13 1) oneBlamed []
     ∷ []
 
--- tasks 0 and 2 are ready; promise i is owned by task i, and task 1 waits on promise 0.
+-- tasks 0 and 2 are ready; promise i is owned by task i, and task 1 waits on promise 0
 abbrev pub beforeTheRing : Tables
 beforeTheRing = tables (1 ∷ 16 ∷ 1 ∷ 0 ∷ []) (16 ∷ 17 ∷ 18 ∷ [])
 

@@ -1,4 +1,4 @@
--- The five steps: what each answers, the tables after it, and the report words. Paper: 01, "The five steps"; 02, 3/13.
+-- The five steps: what each answers, the tables after it, and the report words. Paper: 01, "The five steps"; 02, 3/13 and 4/13.
 --
 --   Step                    a step with its numbers
 --   Outcome                 the answer, the tables after it, and the words that the report then begins with
