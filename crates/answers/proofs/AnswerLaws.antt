@@ -14,8 +14,10 @@ use Rattle.buffers.proofs.BufferLaws.{over-is, over-over, fitting-none, fitting
 use Rattle.fields.specs.Fields.{tab, lineEnd}
 use Rattle.numbers.specs.Numbers.{dec}
 use Rattle.writers.specs.Texts.{fieldText, fieldsText}
+use Rattle.rules.specs.Answers.{laid}
+use Rattle.rules.specs.declared.Layout.{Layout}
 use Rattle.rules.specs.declared.Answer.{Answer}
-use Rattle.answers.specs.AnswerText.{wordOf, fieldsOf, answerText}
+use Rattle.answers.specs.AnswerText.{wordIn, fieldsIn, answerText}
 
 -- ---- one text after another
 
@@ -69,24 +71,23 @@ unfolding fieldsText
 fieldsText-append [] ns = refl
 fieldsText-append (m ∷ ms) ns = rw (fieldsText-append ms ns) (sym (append-assoc (fieldText m) (fieldsText ms) (fieldsText ns)))
 
--- two numbers, and three
-pub fieldsText-two : (m n : ℕ) → fieldsText (m ∷ n ∷ []) ≡ fieldsText (m ∷ []) ++ fieldsText (n ∷ [])
-fieldsText-two m n = fieldsText-append (m ∷ []) (n ∷ [])
-
-pub fieldsText-three : (l m n : ℕ) → fieldsText (l ∷ m ∷ n ∷ []) ≡ fieldsText (l ∷ []) ++ fieldsText (m ∷ []) ++ fieldsText (n ∷ [])
-fieldsText-three l m n = fieldsText-append (l ∷ m ∷ []) (n ∷ []) ∙ ap (λ (x : List ℕ). x ++ fieldsText (n ∷ [])) (fieldsText-two l m)
-
 -- ---- the whole line
 
 -- its five parts, each written after the one before
-pub answer-wrote : (n : ℕ) (a : Answer) (rs : List ℕ) {o x y z v w : List ℕ} {d t k e r : ℕ} → Wrote (dec n) o x d → Added (tab ∷ []) x d y t
-    → Added (wordOf a) y t z k → Added (fieldsText (fieldsOf a rs)) z k v e → Added (lineEnd ∷ []) v e w r → Wrote (answerText n a rs) o w r
+pub answer-wrote : (n : ℕ) (a : Answer) (rs : List ℕ) {l : Layout} {o x y z v w : List ℕ} {d t k e r : ℕ} → l ≡ laid a → Wrote (dec n) o x d → Added (tab ∷ []) x d y t
+    → Added (wordIn (l .refuses) (l .number)) y t z k → Added (fieldsText (fieldsIn l rs)) z k v e → Added (lineEnd ∷ []) v e w r → Wrote (answerText n a rs) o w r
 unfolding answerText
-answer-wrote n a rs {o} {x} {y} {z} {v} {w} {d} {t} {k} {e} {r} digits tab-after word fields end =
-    subst (λ (text : List ℕ). Wrote text o w r) joined (wrote-added (wrote-added (wrote-added (wrote-added digits tab-after) word) fields) end)
+answer-wrote n a rs {l} {o} {x} {y} {z} {v} {w} {d} {t} {k} {e} {r} its-layout digits tab-after word fields end =
+    subst (λ (text : List ℕ). Wrote text o w r) (joined ∙ rw its-layout refl) (wrote-added (wrote-added (wrote-added (wrote-added digits tab-after) word) fields) end)
   where
-    joined : dec n ++ tab ∷ [] ++ wordOf a ++ fieldsText (fieldsOf a rs) ++ lineEnd ∷ [] ≡ dec n ++ (tab ∷ (wordOf a ++ fieldsText (fieldsOf a rs) ++ lineEnd ∷ []))
+    its-word : List ℕ
+    its-word = wordIn (l .refuses) (l .number)
+
+    its-fields : List ℕ
+    its-fields = fieldsText (fieldsIn l rs)
+
+    joined : dec n ++ tab ∷ [] ++ its-word ++ its-fields ++ lineEnd ∷ [] ≡ dec n ++ (tab ∷ (its-word ++ its-fields ++ lineEnd ∷ []))
     joined =
-        ap (λ (text : List ℕ). text ++ lineEnd ∷ []) (append-assoc (dec n ++ tab ∷ []) (wordOf a) (fieldsText (fieldsOf a rs)))
-        ∙ append-assoc (dec n ++ tab ∷ []) (wordOf a ++ fieldsText (fieldsOf a rs)) (lineEnd ∷ [])
-        ∙ append-assoc (dec n) (tab ∷ []) (wordOf a ++ fieldsText (fieldsOf a rs) ++ lineEnd ∷ [])
+        ap (λ (text : List ℕ). text ++ lineEnd ∷ []) (append-assoc (dec n ++ tab ∷ []) its-word its-fields)
+        ∙ append-assoc (dec n ++ tab ∷ []) (its-word ++ its-fields) (lineEnd ∷ [])
+        ∙ append-assoc (dec n) (tab ∷ []) (its-word ++ its-fields ++ lineEnd ∷ [])

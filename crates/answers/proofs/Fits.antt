@@ -1,31 +1,33 @@
 -- Every answer line has room in the lent one. A line number has at most 6 digits and a word at most 7 bytes; the fields of a step's answer
--- are at most 323 numbers below 1000, since they are numbers and places of tables that were found within their bounds and sound, or the
--- number of a refusal. So the line has at most 1,307 bytes. It shows the words of its own step alone (`shown-words`). A bad line's answer has
+-- are at most 324 numbers below 1000, since they are numbers and places of tables that were found within their bounds and sound, or the
+-- number of a refusal. So the line has at most 1,311 bytes. It shows the words of its own step alone (`shown-words`). A bad line's answer has
 -- two numbers of at most six digits (`placed-fits`).
 -- Assumes nothing.
 use Prim.Native.Nat.{ℕ, zero, suc, _+_, _*_, _≤_, _<_}
-use mathlib.Core.List.{List, []}
-use mathlib.Core.Bool.{Bool, true}
+use mathlib.Core.List.{List, [], _∷_}
+use mathlib.Core.Logic.{_⊎_, inl, inr}
+use mathlib.Core.Bool.{Bool, true, false, cond, _&&_}
 use mathlib.Core.Path.{_≡_, refl, sym, subst}
 use native.Mathlib.Omega.{arith}
-use lib.Dec.{ltb}
-use borrow.Author.Tests.{ltb-true}
+use lib.Dec.{eqb, leb, ltb}
+use borrow.Author.Tests.{leb-true, ltb-true}
 use lib.ListN.{length, getD, length-append}
 use Rattle.words.specs.Words.{Form, small, waitsOn, ownedBy, lastLine}
 use Rattle.words.specs.Lists.{is, places, over}
 use Rattle.words.proofs.ListLaws.{places-at, places-length, count-le, allPass, in-passes}
-use Rattle.words.proofs.WordLaws.{inBounds-true}
+use Rattle.words.proofs.BoolLaws.{and-split}
+use Rattle.rules.proofs.BoundsLaws.{inBounds-true}
 use Rattle.rules.specs.Tables.{Tables, taskAt, promiseAt, live, awaitedBy, ownerOf, blamedTask}
 use Rattle.rules.specs.Sound.{TaskWord, unused, ready, ended, waits, PromiseWord, unmade, done, owned, blamed, Sound}
-use Rattle.rules.specs.Answers.{numberOf, valuesOf}
+use Rattle.rules.specs.Answers.{laid, numberOf, valuesOf}
 use Rattle.rules.specs.Refusals.{first, tableRows, getRows, entryRefusal, firstBad}
 use Rattle.rules.specs.Steps.{Step, step-new, step-set, step-get, step-async, step-end, Outcome, outcome, awaits, withWait, pairs, followed, rows, stepRefused, effect, raw, step}
-use Rattle.rules.specs.Demands.{paperNumbers, Refusal, plain, placed}
+use Rattle.rules.specs.Demands.{paperNumbers, Refusal}
 use Rattle.rules.specs.declared.Answer.{Answer}
-use Rattle.rules.specs.declared.Answer.the-variants.{Opened, Made, Set, Value, Blamed, Waits, Cycle, Started, Ended, Refused, RefusedAt, RefusedBlamed, RefusedBlamedAt}
+use Rattle.rules.specs.declared.Answer.the-variants.{Opened, Refused, RefusedAt}
 use Rattle.rules.proofs.GuardLaws.{guarded-by, started-by}
 use Rattle.rules.proofs.Accepted.{got-is}
-use Rattle.rules.proofs.AnswerLaws.{with-by, at-with-by}
+use Rattle.rules.proofs.AnswerLaws.{Accepted, accepted-or-refused, with-by, at-with-by}
 use Rattle.rules.proofs.Counts.{pairs-length}
 use Rattle.rules.proofs.GivesLaws.{tableRows-none}
 use Rattle.rules.proofs.PlaceLaws.{firstBad-place}
@@ -35,7 +37,7 @@ use Rattle.rules.proofs.Promises.{test-means-sound, refused-by-a-number-of-its-
 use Rattle.numbers.proofs.PrintLaws.{dec-six}
 use Rattle.writers.specs.Texts.{fieldsText, Every, no-more, one-more}
 use Rattle.writers.proofs.WriterLaws.{fieldsText-four}
-use Rattle.answers.specs.AnswerText.{wordOf, fieldsOf, answerText, longestAnswer}
+use Rattle.answers.specs.AnswerText.{wordTable, lookedUp, wordIn, fieldsIn, fieldsOf, answerText, longestAnswer}
 use Rattle.answers.proofs.ShownLaws.{fieldsOf-over, fieldsOf-length, fieldsOf-every, every-in, every-append}
 
 abbrev Low : ℕ → Type 0
@@ -43,39 +45,41 @@ Low n = n < 1000
 
 -- ---- the bytes of a line
 
-wordOf-length : (a : Answer) → length (wordOf a) ≤ 7
-unfolding wordOf
-wordOf-length Opened = omega arith
-wordOf-length Made = omega arith
-wordOf-length (Set n) = omega arith
-wordOf-length Value = omega arith
-wordOf-length (Blamed b) = omega arith
-wordOf-length (Waits k) = omega arith
-wordOf-length (Cycle k) = omega arith
-wordOf-length Started = omega arith
-wordOf-length (Ended m n) = omega arith
-wordOf-length (Refused r) = omega arith
-wordOf-length (RefusedAt r i) = omega arith
-wordOf-length (RefusedBlamed b) = omega arith
-wordOf-length (RefusedBlamedAt i b) = omega arith
+short : List (ℕ × List ℕ) → Bool
+short [] = true
+short ((k, w) ∷ ws) = leb (length w) 7 && short ws
 
-text-fits : (n : ℕ) (a : Answer) (rs : List ℕ) → n ≤ lastLine → length (fieldsText (fieldsOf a rs)) ≤ 4 * 323 → length (answerText n a rs) ≤ longestAnswer
+lookedUp-short : (ws : List (ℕ × List ℕ)) (n : ℕ) → short ws ≡ true → length (lookedUp ws n) ≤ 7
+unfolding lookedUp short
+lookedUp-short [] n h = omega arith
+lookedUp-short ((k, w) ∷ ws) n h = let (l, m) = and-split (leb (length w) 7) (short ws) h in go (eqb n k) (leb-true (length w) 7 l) (lookedUp-short ws n m)
+  where
+    go : (b : Bool) → length w ≤ 7 → length (lookedUp ws n) ≤ 7 → length (cond b w (lookedUp ws n)) ≤ 7
+    go true l m = l
+    go false l m = m
+
+wordIn-length : (b : Bool) (n : ℕ) → length (wordIn b n) ≤ 7
+unfolding wordIn short
+wordIn-length true n = omega arith
+wordIn-length false n = lookedUp-short wordTable n refl
+
+text-fits : (n : ℕ) (a : Answer) (rs : List ℕ) → n ≤ lastLine → length (fieldsText (fieldsOf a rs)) ≤ 4 * 324 → length (answerText n a rs) ≤ longestAnswer
 unfolding answerText
-text-fits n a rs h few = rw (length-append, length-append, length-append) (omega (arith, dec-six n (omega arith), wordOf-length a))
+text-fits n a rs h few = rw (length-append, length-append, length-append) (omega (arith, dec-six n (omega arith), wordIn-length (laid a .refuses) (laid a .number)))
 
-low-fits : (n : ℕ) (a : Answer) (rs : List ℕ) → n ≤ lastLine → Every Low (fieldsOf a rs) → length (fieldsOf a rs) ≤ 323 → length (answerText n a rs) ≤ longestAnswer
+low-fits : (n : ℕ) (a : Answer) (rs : List ℕ) → n ≤ lastLine → Every Low (fieldsOf a rs) → length (fieldsOf a rs) ≤ 324 → length (answerText n a rs) ≤ longestAnswer
 low-fits n a rs h low few = text-fits n a rs h (omega (arith, fieldsText-four (fieldsOf a rs) low))
 
 pub refused-fits : (n r : ℕ) (rs : List ℕ) → n ≤ lastLine → r < 1000 → length (answerText n (Refused r) rs) ≤ longestAnswer
-unfolding fieldsOf
+unfolding laid fieldsIn
 refused-fits n r rs h l = low-fits n (Refused r) rs h (one-more l no-more) (omega arith)
 
 pub placed-fits : (n r i : ℕ) (rs : List ℕ) → n ≤ lastLine → r < 1000000 → i < 1000000 → length (answerText n (RefusedAt r i) rs) ≤ longestAnswer
-unfolding fieldsOf fieldsText
+unfolding laid fieldsIn fieldsText
 placed-fits n r i rs h k l = text-fits n (RefusedAt r i) rs h (rw (length-append, length-append) (omega (arith, dec-six r (omega arith), dec-six i (omega arith))))
 
 pub opened-fits : (n : ℕ) (rs : List ℕ) → n ≤ lastLine → length (answerText n Opened rs) ≤ longestAnswer
-unfolding fieldsOf
+unfolding laid fieldsIn
 opened-fits n rs h = low-fits n Opened rs h no-more (omega arith)
 
 -- ---- its words are its own
@@ -136,7 +140,7 @@ module _ (s : Tables) (tasks : length (s .tasks) ≤ small .mostTasks) (promises
   pairs-low (suc k) t p a b = one-more a (one-more b (pairs-low k (ownerOf s p) (awaitedBy s (ownerOf s p)) (owner-low p) (awaited-low (ownerOf s p))))
 
   get-modest : (t p : ℕ) → first (rows small s (step-get t p)) ≡ 0 → Modest (effect small s (step-get t p))
-  unfolding followed valuesOf
+  unfolding followed laid
   get-modest t p e =
       let (a, e₁) = actorRows-none (s .tasks) t (getRows (s .promises) p) e in
       let (b, m) = getRows-none (s .promises) p e₁ in
@@ -154,7 +158,7 @@ module _ (s : Tables) (tasks : length (s .tasks) ≤ small .mostTasks) (promises
       (λ u l h o c z. modest (withWait s t p) (one-more (omega (arith, chain-bound s c, count-le live (s .tasks))) no-more))
 
   refusal-modest : (x : Step) (r : ℕ) → Modest (outcome (stepRefused small s x r) s [])
-  unfolding valuesOf
+  unfolding laid
   refusal-modest (step-new t p) r = modest s no-more
   refusal-modest (step-set t p) r = with-by (λ (a : Answer). Modest (outcome a s [])) _ r (λ z. modest s (one-more (blamed-low p) no-more)) (λ z. modest s no-more)
   refusal-modest (step-get t p) r = modest s no-more
@@ -162,7 +166,7 @@ module _ (s : Tables) (tasks : length (s .tasks) ≤ small .mostTasks) (promises
   refusal-modest (step-end t) r = modest s no-more
 
   effect-modest : (x : Step) → first (rows small s x) ≡ 0 → Modest (effect small s x)
-  unfolding valuesOf
+  unfolding laid
   effect-modest (step-new t p) e = modest _ no-more
   effect-modest (step-set t p) e =
       record {
@@ -188,33 +192,24 @@ module _ (s : Tables) (tasks : length (s .tasks) ≤ small .mostTasks) (promises
 
 -- refused or not, in whatever tables
 step-modest : (m : ℕ) (s : Tables) (x : Step) → Modest (step small m s x)
-unfolding valuesOf
+unfolding laid
 step-modest m s x = guarded-by Modest _ (first (tableRows small m s)) s (raw small s x) (λ y. modest s no-more) within
   where
     within : first (tableRows small m s) ≡ 0 → Modest (raw small s x)
     within z =
         let (b, e) = tableRows-none small m s z in
-        let size = inBounds-true small (length (s .tasks)) (length (s .promises)) m b in
+        let size = inBounds-true small m s b in
         let sd = test-means-sound (small .base) s (omega (arith, size .tasks)) e in
         guarded-by Modest _ (first (rows small s x)) s (effect small s x) (λ y. refusal-modest s (size .tasks) (size .promises) sd x _)
         (λ y. effect-modest s (size .tasks) (size .promises) sd x y)
 
--- a refusal's number is one of the paper's, and any other is at most 108
+-- a refusal's number is one of the paper's, and any other is small
 answer-low : (a : Answer) → (Refusal a → Low (numberOf a)) → Low (numberOf a)
-unfolding numberOf
-answer-low Opened h = omega arith
-answer-low Made h = omega arith
-answer-low (Set n) h = omega arith
-answer-low Value h = omega arith
-answer-low (Blamed b) h = omega arith
-answer-low (Waits k) h = omega arith
-answer-low (Cycle k) h = omega arith
-answer-low Started h = omega arith
-answer-low (Ended m n) h = omega arith
-answer-low (Refused r) h = h (plain r)
-answer-low (RefusedAt r i) h = h (placed r i)
-answer-low (RefusedBlamed b) h = omega arith
-answer-low (RefusedBlamedAt i b) h = omega arith
+answer-low a h = go (accepted-or-refused a)
+  where
+    go : Accepted a ⊎ Refusal a → Low (numberOf a)
+    go (inl c) = c .low
+    go (inr w) = h w
 
 papers-low : (x : Step) → allPass (λ r. ltb r 1000) (paperNumbers x) ≡ true
 papers-low (step-new t p) = refl
@@ -237,4 +232,4 @@ step-answer-fits n m s x rs h =
     let own = sym (shown-words small m s x rs) in
     low-fits n (o .answer) (over (o .words) rs) h
     (subst (Every Low) own (fieldsOf-every Low (o .answer) (o .words) (step-low m s x) (d .values) (d .words)))
-    (subst (λ (ns : List ℕ). length ns ≤ 323) own (omega (arith, fieldsOf-length (o .answer) (o .words), d .few)))
+    (subst (λ (ns : List ℕ). length ns ≤ 324) own (omega (arith, fieldsOf-length (o .answer) (o .words), d .few)))

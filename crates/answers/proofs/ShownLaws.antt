@@ -1,17 +1,19 @@
 -- Laws of `fieldsOf` for what an answer shows of the report: with enough words written at the report's start, the fields are the same as
--- from these words alone, whatever the report held before; there are at most three more of them than words; and they are as small as the
+-- from these words alone, whatever the report held before; there are at most four more of them than words; and they are as small as the
 -- answer's own numbers and the words are. Assumes nothing.
-use Prim.Native.Nat.{ℕ, zero, suc, _+_, _*_, _≤_}
+use Prim.Native.Nat.{ℕ, zero, suc, _+_, _-_, _≤_, min}
 use mathlib.Core.List.{List, [], _∷_, _++_}
+use mathlib.Core.Bool.{Bool, true, false, cond}
 use mathlib.Core.Path.{_≡_, refl, ap}
 use native.Mathlib.Omega.{arith}
 use lib.ListN.{length, take, drop, length-append, length-take, length-drop}
 use Rattle.words.specs.Lists.{over, In, top, pop}
 use Rattle.writers.specs.Texts.{partOf, Every, no-more, one-more}
-use Rattle.rules.specs.Answers.{numberOf, valuesOf, wordCount}
+use Rattle.rules.specs.Answers.{laid, numberOf, valueIn, valuesOf, wordCount}
 use Rattle.rules.specs.declared.Answer.{Answer}
-use Rattle.rules.specs.declared.Answer.the-variants.{Opened, Made, Set, Value, Blamed, Waits, Cycle, Started, Ended, Refused, RefusedAt, RefusedBlamed, RefusedBlamedAt}
-use Rattle.answers.specs.AnswerText.{fieldsOf}
+use Rattle.rules.specs.declared.Part.{Part}
+use Rattle.rules.specs.declared.Layout.{Layout}
+use Rattle.answers.specs.AnswerText.{numberShown, partShown, fieldsIn, fieldsOf}
 
 -- ---- the report's first words
 
@@ -27,42 +29,34 @@ pub part-over : (from n : ℕ) (ws rs : List ℕ) → from + n ≤ length ws →
 unfolding over
 part-over from n ws rs h = part-append from n ws (drop (length ws) rs) h
 
+shown-over : (p : Part) (ws rs : List ℕ) (from : ℕ) → from + p .words ≤ length ws → partShown p (over ws rs) from ≡ partShown p ws from
+shown-over p ws rs from h = rw (part-over from (p .words) ws rs h)
+
 pub fieldsOf-over : (a : Answer) (ws rs : List ℕ) → wordCount a ≤ length ws → fieldsOf a (over ws rs) ≡ fieldsOf a ws
-unfolding wordCount fieldsOf
-fieldsOf-over Opened ws rs h = refl
-fieldsOf-over Made ws rs h = refl
-fieldsOf-over (Set n) ws rs h = rw (part-over 0 n ws rs (omega arith))
-fieldsOf-over Value ws rs h = refl
-fieldsOf-over (Blamed b) ws rs h = refl
-fieldsOf-over (Waits k) ws rs h = refl
-fieldsOf-over (Cycle k) ws rs h = rw (part-over 0 (2 * k) ws rs (omega arith))
-fieldsOf-over Started ws rs h = refl
-fieldsOf-over (Ended m n) ws rs h = rw (part-over 0 m ws rs (omega arith), part-over m n ws rs h)
-fieldsOf-over (Refused r) ws rs h = refl
-fieldsOf-over (RefusedAt r i) ws rs h = refl
-fieldsOf-over (RefusedBlamed b) ws rs h = refl
-fieldsOf-over (RefusedBlamedAt i b) ws rs h = refl
+unfolding fieldsIn
+fieldsOf-over a ws rs h =
+    let l = laid a in
+    rw (shown-over (l .first) ws rs 0 (omega arith), shown-over (l .second) ws rs (l .first .words) (omega arith), shown-over (l .third) ws rs (l .first .words + l .second .words) (omega arith))
 
 -- ---- how many fields there are
 
-part-length : (ws : List ℕ) (from n : ℕ) → length (partOf ws from n) ≤ length ws
-part-length ws from n = rw (length-take, length-drop) (omega arith)
+shown-length : (p : Part) (ws : List ℕ) (from : ℕ) → length (partShown p ws from) ≤ 1 + min (p .words) (length ws - from)
+shown-length p ws from = go (p .told)
+  where
+    go : (b : Bool) → length (cond b (p .value ∷ partOf ws from (p .words)) []) ≤ 1 + min (p .words) (length ws - from)
+    go true = omega (arith, length-take (p .words) (drop from ws), length-drop from ws)
+    go false = omega arith
 
-pub fieldsOf-length : (a : Answer) (ws : List ℕ) → length (fieldsOf a ws) ≤ 3 + length ws
-unfolding fieldsOf
-fieldsOf-length Opened ws = omega arith
-fieldsOf-length Made ws = omega arith
-fieldsOf-length (Set n) ws = omega (arith, part-length ws 0 n)
-fieldsOf-length Value ws = omega arith
-fieldsOf-length (Blamed b) ws = omega arith
-fieldsOf-length (Waits k) ws = omega arith
-fieldsOf-length (Cycle k) ws = omega (arith, part-length ws 0 (2 * k))
-fieldsOf-length Started ws = omega arith
-fieldsOf-length (Ended m n) ws = rw length-append (omega (arith, length-take m ws, length-take n (drop m ws), length-drop m ws))
-fieldsOf-length (Refused r) ws = omega arith
-fieldsOf-length (RefusedAt r i) ws = omega arith
-fieldsOf-length (RefusedBlamed b) ws = omega arith
-fieldsOf-length (RefusedBlamedAt i b) ws = omega arith
+number-length : (b : Bool) (n : ℕ) → length (numberShown b n) ≤ 1
+number-length true n = omega arith
+number-length false n = omega arith
+
+pub fieldsOf-length : (a : Answer) (ws : List ℕ) → length (fieldsOf a ws) ≤ 4 + length ws
+unfolding fieldsIn
+fieldsOf-length a ws =
+    let l = laid a in
+    rw (length-append, length-append, length-append)
+    (omega (arith, number-length (l .refuses) (l .number), shown-length (l .first) ws 0, shown-length (l .second) ws (l .first .words), shown-length (l .third) ws (l .first .words + l .second .words)))
 
 -- ---- how large they are
 
@@ -88,19 +82,28 @@ module _ (P : ℕ → Type 0) where
   every-part : (from n : ℕ) {ws : List ℕ} → Every P ws → Every P (partOf ws from n)
   every-part from n a = every-take n (every-drop from a)
 
+  every-parted : (xs : List ℕ) {ys : List ℕ} → Every P (xs ++ ys) → Every P xs × Every P ys
+  every-parted [] a = (no-more, a)
+  every-parted (x ∷ xs) (one-more p a) = let (b, c) = every-parted xs a in (one-more p b, c)
+
+  number-every : (b : Bool) (n : ℕ) → P n → Every P (numberShown b n)
+  number-every true n p = one-more p no-more
+  number-every false n p = no-more
+
+  shown-every : (p : Part) (from : ℕ) {ws : List ℕ} → Every P (valueIn p) → Every P ws → Every P (partShown p ws from)
+  shown-every p from {ws} v w = go (p .told) v
+    where
+      go : (b : Bool) → Every P (cond b (p .value ∷ []) []) → Every P (cond b (p .value ∷ partOf ws from (p .words)) [])
+      go true (one-more q u) = one-more q (every-part from (p .words) w)
+      go false u = no-more
+
   -- what holds of the answer's number, its values and the words holds of the fields
   pub fieldsOf-every : (a : Answer) (ws : List ℕ) → P (numberOf a) → Every P (valuesOf a) → Every P ws → Every P (fieldsOf a ws)
-  unfolding fieldsOf numberOf valuesOf
-  fieldsOf-every Opened ws p v w = no-more
-  fieldsOf-every Made ws p v w = no-more
-  fieldsOf-every (Set n) ws p (one-more q v) w = one-more q (every-part 0 n w)
-  fieldsOf-every Value ws p v w = no-more
-  fieldsOf-every (Blamed b) ws p v w = v
-  fieldsOf-every (Waits k) ws p v w = v
-  fieldsOf-every (Cycle k) ws p (one-more q v) w = one-more q (every-part 0 (2 * k) w)
-  fieldsOf-every Started ws p v w = no-more
-  fieldsOf-every (Ended m n) ws p (one-more q (one-more r v)) w = every-append (one-more q (every-part 0 m w)) (one-more r (every-part m n w))
-  fieldsOf-every (Refused r) ws p v w = one-more p no-more
-  fieldsOf-every (RefusedAt r i) ws p v w = one-more p v
-  fieldsOf-every (RefusedBlamed b) ws p v w = one-more p v
-  fieldsOf-every (RefusedBlamedAt i b) ws p v w = one-more p v
+  unfolding fieldsIn
+  fieldsOf-every a ws n v w =
+      let l = laid a in
+      let (both, third) = every-parted (valueIn (l .first) ++ valueIn (l .second)) v in
+      let (first, second) = every-parted (valueIn (l .first)) both in
+      every-append
+      (every-append (every-append (number-every (l .refuses) (l .number) n) (shown-every (l .first) 0 first w)) (shown-every (l .second) (l .first .words) second w))
+      (shown-every (l .third) (l .first .words + l .second .words) third w)

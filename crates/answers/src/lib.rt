@@ -2,72 +2,110 @@
 // current end `at` on. Each `add_` writer answers the new end. A text without room is cut at the line's end; every answer
 // has room in 2,048 bytes (proofs/Fits.antt).
 use rules::Answer;
+use rules::Layout;
+use rules::Part;
+use telling::layout;
 ghost use mathlib.Core.List.{[], _∷_};
 ghost use Rattle.buffers.specs.Buffers.{Wrote, Added};
 ghost use Rattle.writers.specs.Texts.{fieldsText, partOf};
-ghost use Rattle.answers.specs.AnswerText.{refusedWord, wordOf, fieldsOf, answerText};
+ghost use Rattle.answers.specs.AnswerText.{refusedWord, openedWord, madeWord, setWord, valueWord, blamedWord, waitsWord, cycleWord, startedWord, endedWord, wordIn, numberShown, partShown, fieldsIn, answerText};
 
-// The word of a refusal.
+// The words of the answers.
 fn add_refused(out: &mut [u8], at: usize) -> usize
     ensures { λ r. ⌜ Added refusedWord (now (out .entry)) at (now (out .exit)) r ⌝ }
 {
     writers::add_bytes(out, at, b"refused")
 }
 
-// The word of an answer.
-fn add_word(out: &mut [u8], at: usize, a: Answer) -> usize
-    ensures { λ r. ⌜ Added (wordOf a) (now (out .entry)) at (now (out .exit)) r ⌝ }
+fn add_opened(out: &mut [u8], at: usize) -> usize
+    ensures { λ r. ⌜ Added openedWord (now (out .entry)) at (now (out .exit)) r ⌝ }
 {
-    match a {
-        Answer::Opened => {
-            return writers::add_bytes(out, at, b"opened");
-        }
-        Answer::Made => {
-            return writers::add_bytes(out, at, b"made");
-        }
-        Answer::Set(_n) => {
-            return writers::add_bytes(out, at, b"set");
-        }
-        Answer::Value => {
-            return writers::add_bytes(out, at, b"value");
-        }
-        Answer::Blamed(_b) => {
-            return writers::add_bytes(out, at, b"blamed");
-        }
-        Answer::Waits(_k) => {
-            return writers::add_bytes(out, at, b"waits");
-        }
-        Answer::Cycle(_k) => {
-            return writers::add_bytes(out, at, b"cycle");
-        }
-        Answer::Started => {
-            return writers::add_bytes(out, at, b"started");
-        }
-        Answer::Ended {
-            omitted: _m,
-            woken: _n,
-        } => {
-            return writers::add_bytes(out, at, b"ended");
-        }
-        Answer::Refused(_r) => {
-            return add_refused(out, at);
-        }
-        Answer::RefusedAt {
-            number: _r,
-            place: _i,
-        } => {
-            return add_refused(out, at);
-        }
-        Answer::RefusedBlamed(_b) => {
-            return add_refused(out, at);
-        }
-        Answer::RefusedBlamedAt {
-            place: _i,
-            blamed: _b,
-        } => {
-            return add_refused(out, at);
-        }
+    writers::add_bytes(out, at, b"opened")
+}
+
+fn add_made(out: &mut [u8], at: usize) -> usize
+    ensures { λ r. ⌜ Added madeWord (now (out .entry)) at (now (out .exit)) r ⌝ }
+{
+    writers::add_bytes(out, at, b"made")
+}
+
+fn add_set(out: &mut [u8], at: usize) -> usize
+    ensures { λ r. ⌜ Added setWord (now (out .entry)) at (now (out .exit)) r ⌝ }
+{
+    writers::add_bytes(out, at, b"set")
+}
+
+fn add_value(out: &mut [u8], at: usize) -> usize
+    ensures { λ r. ⌜ Added valueWord (now (out .entry)) at (now (out .exit)) r ⌝ }
+{
+    writers::add_bytes(out, at, b"value")
+}
+
+fn add_blamed(out: &mut [u8], at: usize) -> usize
+    ensures { λ r. ⌜ Added blamedWord (now (out .entry)) at (now (out .exit)) r ⌝ }
+{
+    writers::add_bytes(out, at, b"blamed")
+}
+
+fn add_waits(out: &mut [u8], at: usize) -> usize
+    ensures { λ r. ⌜ Added waitsWord (now (out .entry)) at (now (out .exit)) r ⌝ }
+{
+    writers::add_bytes(out, at, b"waits")
+}
+
+fn add_cycle(out: &mut [u8], at: usize) -> usize
+    ensures { λ r. ⌜ Added cycleWord (now (out .entry)) at (now (out .exit)) r ⌝ }
+{
+    writers::add_bytes(out, at, b"cycle")
+}
+
+fn add_started(out: &mut [u8], at: usize) -> usize
+    ensures { λ r. ⌜ Added startedWord (now (out .entry)) at (now (out .exit)) r ⌝ }
+{
+    writers::add_bytes(out, at, b"started")
+}
+
+fn add_ended(out: &mut [u8], at: usize) -> usize
+    ensures { λ r. ⌜ Added endedWord (now (out .entry)) at (now (out .exit)) r ⌝ }
+{
+    writers::add_bytes(out, at, b"ended")
+}
+
+// The word of an answer.
+fn add_word(out: &mut [u8], at: usize, refuses: bool, number: u16) -> usize
+    ensures { λ r. ⌜ Added (wordIn refuses number) (now (out .entry)) at (now (out .exit)) r ⌝ }
+{
+    if refuses {
+        return add_refused(out, at);
     }
+    if number == 100 {
+        return add_opened(out, at);
+    }
+    if number == 101 {
+        return add_made(out, at);
+    }
+    if number == 102 {
+        return add_set(out, at);
+    }
+    if number == 103 {
+        return add_value(out, at);
+    }
+    if number == 104 {
+        return add_blamed(out, at);
+    }
+    if number == 105 {
+        return add_waits(out, at);
+    }
+    if number == 106 {
+        return add_cycle(out, at);
+    }
+    if number == 107 {
+        return add_started(out, at);
+    }
+    if number == 108 {
+        return add_ended(out, at);
+    }
+    at
 }
 
 // One number.
@@ -92,56 +130,36 @@ fn add_list(
     writers::add_part(out, e, report, from, words)
 }
 
-// The fields of an answer; the lists among them are in the report.
-fn add_fields(out: &mut [u8], at: usize, a: Answer, report: &[u16]) -> usize
-    ensures { λ r. ⌜ Added (fieldsText (fieldsOf a (now (report .entry)))) (now (out .entry)) at (now (out .exit)) r ⌝ }
+// A value with its words, which stand in the report from `from` on; nothing, where there is no value.
+fn add_part(out: &mut [u8], at: usize, p: Part, report: &[u16], from: usize) -> usize
+    ensures { λ r. ⌜ Added (fieldsText (partShown p (now (report .entry)) from)) (now (out .entry)) at (now (out .exit)) r ⌝ }
 {
-    match a {
-        Answer::Opened => {
-            return at;
-        }
-        Answer::Made => {
-            return at;
-        }
-        Answer::Set(n) => {
-            return add_list(out, at, n, report, 0, n as usize);
-        }
-        Answer::Value => {
-            return at;
-        }
-        Answer::Blamed(b) => {
-            return add_field(out, at, b);
-        }
-        Answer::Waits(k) => {
-            return add_field(out, at, k);
-        }
-        Answer::Cycle(k) => {
-            return add_list(out, at, k, report, 0, 2 * k as usize);
-        }
-        Answer::Started => {
-            return at;
-        }
-        Answer::Ended { omitted, woken } => {
-            let e = add_list(out, at, omitted, report, 0, omitted as usize);
-            return add_list(out, e, woken, report, omitted as usize, woken as usize);
-        }
-        Answer::Refused(r) => {
-            return add_field(out, at, r);
-        }
-        Answer::RefusedAt { number, place } => {
-            let e = add_field(out, at, number);
-            return add_field(out, e, place);
-        }
-        Answer::RefusedBlamed(b) => {
-            let e = add_field(out, at, 17);
-            return add_field(out, e, b);
-        }
-        Answer::RefusedBlamedAt { place, blamed } => {
-            let e = add_field(out, at, 17);
-            let i = add_field(out, e, place);
-            return add_field(out, i, blamed);
-        }
+    if p.told {
+        return add_list(out, at, p.value, report, from, p.words as usize);
     }
+    at
+}
+
+// The number of a refusal.
+fn add_refusal(out: &mut [u8], at: usize, refuses: bool, number: u16) -> usize
+    ensures { λ r. ⌜ Added (fieldsText (numberShown refuses number)) (now (out .entry)) at (now (out .exit)) r ⌝ }
+{
+    if refuses {
+        return add_field(out, at, number);
+    }
+    at
+}
+
+// The fields of an answer; the lists among them are in the report.
+fn add_fields(out: &mut [u8], at: usize, l: Layout, report: &[u16]) -> usize
+    ensures { λ r. ⌜ Added (fieldsText (fieldsIn l (now (report .entry)))) (now (out .entry)) at (now (out .exit)) r ⌝ }
+{
+    let second = l.first.words as usize;
+    let third = second + l.second.words as usize;
+    let n = add_refusal(out, at, l.refuses, l.number);
+    let v = add_part(out, n, l.first, report, 0);
+    let w = add_part(out, v, l.second, report, second);
+    add_part(out, w, l.third, report, third)
 }
 
 // Writes the answer line of the line `number`, with its LF, and answers how many bytes it has.
@@ -150,7 +168,8 @@ pub fn put_answer(out: &mut [u8], number: u32, a: Answer, report: &[u16]) -> usi
 {
     let digits = numbers::put_digits(out, number);
     let tab = buffers::add_byte(out, digits, 9);
-    let word = add_word(out, tab, a);
-    let fields = add_fields(out, word, a, report);
+    let l = layout(a);
+    let word = add_word(out, tab, l.refuses, l.number);
+    let fields = add_fields(out, word, l, report);
     buffers::add_byte(out, fields, 10)
 }

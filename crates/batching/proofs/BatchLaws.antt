@@ -12,15 +12,16 @@ use borrow.Author.Tests.{leb-true, le-leb, lt-leb, eq-eqb, ne-eqb, eqb-false}
 use lib.Dec.{leb}
 use lib.ListN.{length, drop, length-append, drop-of-length-le}
 use lib.Seq.{sets, length-sets, drop-cons}
-use Rattle.words.specs.Words.{Form, inBounds, sizesInBounds, mostRecords}
+use Rattle.words.specs.Words.{Form, sizesInBounds, roomFor, mostRecords}
 use Rattle.words.proofs.BoolLaws.{and-split, and-false}
 use Rattle.words.proofs.ListLaws.{over-sets, over-none, sets-append}
-use Rattle.words.proofs.WordLaws.{Sizes, sizesInBounds-true, inBounds-true, inBounds-of}
-use Rattle.rules.specs.Tables.{Tables, tables}
+use Rattle.words.proofs.WordLaws.{Sizes, sizesInBounds-true}
+use Rattle.rules.specs.Tables.{Tables, inBounds}
 use Rattle.rules.specs.Sound.{soundTest}
 use Rattle.rules.specs.Refusals.{first, tableRows}
 use Rattle.rules.specs.Steps.{Outcome, raw, step}
 use Rattle.rules.specs.Demands.{Apart, Good}
+use Rattle.rules.proofs.BoundsLaws.{AsLong, as-long, as-long-too, inBounds-true, inBounds-of}
 use Rattle.rules.proofs.GuardLaws.{guarded-is, guarded-none}
 use Rattle.rules.proofs.Kept.{good-passes, good-step, step-lengths}
 use Rattle.rules.proofs.Promises.{test-means-sound}
@@ -30,7 +31,7 @@ use Rattle.telling.proofs.AnswerWordLaws.{answerWords-length}
 use Rattle.stepping.specs.declared.Record.{Record}
 use Rattle.stepping.specs.Records.{stepOf, partRows, rawRecord, stepRecord, Turns}
 use Rattle.stepping.proofs.RecordLaws.{record-room}
-use Rattle.batching.specs.Batches.{noRecord, recordAt, oneByOne, lastTables, allAnswers, allWords, ownReport, hasRoom, callRows, done, refused, called, batched, Batches}
+use Rattle.batching.specs.Batches.{noRecord, recordAt, oneByOne, lastTables, allAnswers, allWords, hasRoom, callRows, done, refused, called, batched, Batches}
 use Rattle.batching.specs.declared.Called.the-variants.{Refused, Done}
 
 -- ---- a call that is not refused
@@ -38,16 +39,16 @@ use Rattle.batching.specs.declared.Called.the-variants.{Refused, Done}
 pub record Roomy (F : Form) (T P n m k : ℕ) : Type 0 where
   pub sizes : Sizes F T P
   pub few : n ≤ mostRecords
-  pub report : n * ownReport T P ≤ m
+  pub report : n * roomFor T P ≤ m
   pub answers : 4 * n ≤ k
 
 pub hasRoom-true : (F : Form) (T P n m k : ℕ) → hasRoom F T P n m k ≡ true → Roomy F T P n m k
 unfolding hasRoom
 hasRoom-true F T P n m k e =
     let (a, d) = and-split _ (leb (4 * n) k) e in
-    let (b, c) = and-split _ (leb (n * ownReport T P) m) a in
+    let (b, c) = and-split _ (leb (n * roomFor T P) m) a in
     let (x, y) = and-split (sizesInBounds F T P) (leb n mostRecords) b in
-    record { sizes = sizesInBounds-true F T P x; few = leb-true n mostRecords y; report = leb-true (n * ownReport T P) m c; answers = leb-true (4 * n) k d }
+    record { sizes = sizesInBounds-true F T P x; few = leb-true n mostRecords y; report = leb-true (n * roomFor T P) m c; answers = leb-true (4 * n) k d }
 
 -- the test, in its order
 module _ (F : Form) (T P n m k : ℕ) where
@@ -59,7 +60,7 @@ module _ (F : Form) (T P n m k : ℕ) where
   unfolding hasRoom
   room-too-many h = rw (lt-leb n mostRecords h, and-false)
 
-  pub room-rest : sizesInBounds F T P ≡ true → n ≤ mostRecords → (leb (n * ownReport T P) m && leb (4 * n) k) ≡ hasRoom F T P n m k
+  pub room-rest : sizesInBounds F T P ≡ true → n ≤ mostRecords → (leb (n * roomFor T P) m && leb (4 * n) k) ≡ hasRoom F T P n m k
   unfolding hasRoom
   room-rest e h = rw (e, le-leb n mostRecords h)
 
@@ -73,11 +74,11 @@ module _ (F : Form) (s : Tables) (n m k : ℕ) (e : first (callRows F s n m k) �
   call-roomy = hasRoom-true F (length (s .tasks)) (length (s .promises)) n m k (callRows-none .0)
 
   -- the tables are good, with a report of their own for each step
-  pub call-good : Apart F → Good F (ownReport (length (s .tasks)) (length (s .promises))) s
+  pub call-good : Apart F → Good F (roomFor (length (s .tasks)) (length (s .promises))) s
   call-good apart =
       let b = call-roomy .sizes in
       record {
-        bounds = inBounds-of F (length (s .tasks)) (length (s .promises)) (ownReport (length (s .tasks)) (length (s .promises)))
+        bounds = inBounds-of F (roomFor (length (s .tasks)) (length (s .promises))) s
             (record { some = b .some; tasks = b .tasks; promises = b .promises; room = omega arith });
         sound = test-means-sound (F .base) s (omega (arith, apart, b .tasks)) (callRows-none .1);
       }
@@ -89,7 +90,7 @@ module _ (F : Form) (list : List ℕ) (s : Tables) (rs : List Record) (m k : ℕ
   abbrev pub why : ℕ
   why = first (callRows F s (length rs) m k)
 
-  pub taken-all : why ≡ 0 → batched F list s rs m k ≡ done s (oneByOne F (ownReport (length (s .tasks)) (length (s .promises))) list s rs)
+  pub taken-all : why ≡ 0 → batched F list s rs m k ≡ done s (oneByOne F (roomFor (length (s .tasks)) (length (s .promises))) list s rs)
   unfolding called
   taken-all e = rw (eq-eqb why 0 e)
 
@@ -112,8 +113,8 @@ module _ (F : Form) (apart : Apart F) (n : ℕ) (list : List ℕ) (s : Tables) (
   pub record-good : Good F n (rawRecord F list s r .after)
   record-good = record-by (Good F n) g (good-step F apart n s (stepOf list r) g)
 
-  pub record-lengths : (length (rawRecord F list s r .after .tasks) ≡ length (s .tasks)) × (length (rawRecord F list s r .after .promises) ≡ length (s .promises))
-  record-lengths = record-by (λ (x : Tables). (length (x .tasks) ≡ length (s .tasks)) × (length (x .promises) ≡ length (s .promises))) (refl, refl) (step-lengths F apart n s (stepOf list r))
+  pub record-lengths : AsLong (rawRecord F list s r .after) s
+  record-lengths = record-by (λ (x : Tables). AsLong x s) (as-long s) (step-lengths F apart n s (stepOf list r))
 
 -- ---- lengths
 
@@ -150,7 +151,7 @@ one-less (suc a) n h =
 
 module _ (F : Form) (apart : Apart F) (list : List ℕ) (rs : List Record) (s₀ : Tables) (rep₀ ans₀ : List ℕ) where
   abbrev own : ℕ
-  own = ownReport (length (s₀ .tasks)) (length (s₀ .promises))
+  own = roomFor (length (s₀ .tasks)) (length (s₀ .promises))
 
   -- what all records make
   abbrev all : List Outcome
@@ -165,7 +166,7 @@ module _ (F : Form) (apart : Apart F) (list : List ℕ) (rs : List Record) (s₀
     pub few : length rs ≤ mostRecords
     pub within : i ≤ length rs
     pub good : Good F own s
-    pub sizes : (length (s .tasks) ≡ length (s₀ .tasks)) × (length (s .promises) ≡ length (s₀ .promises))
+    pub sizes : AsLong s s₀
     pub lengths : (length rep ≡ length rep₀) × (length ans ≡ length ans₀)
     pub room : at + (length rs - i) * own ≤ length rep₀
     pub answered : 4 * length rs ≤ length ans₀
@@ -182,7 +183,7 @@ module _ (F : Form) (apart : Apart F) (list : List ℕ) (rs : List Record) (s₀
         few = r .few;
         within = omega arith;
         good = call-good F s₀ (length rs) (length rep₀) (length ans₀) e apart;
-        sizes = (refl, refl);
+        sizes = as-long s₀;
         lengths = (refl, refl);
         room = omega (arith, r .report, all-left);
         answered = r .answers;
@@ -194,11 +195,11 @@ module _ (F : Form) (apart : Apart F) (list : List ℕ) (rs : List Record) (s₀
 
   -- what is asked of the i-th turn
   pub going-asks : {i at : ℕ} {s : Tables} {rep ans : List ℕ} → Going i at s rep ans → i < length rs
-      → (inBounds F (length (s .tasks)) (length (s .promises)) (length rep - at) ≡ true) × (at ≤ length rep) × (4 * i + 4 ≤ length ans)
+      → (inBounds F (length rep - at) s ≡ true) × (at ≤ length rep) × (4 * i + 4 ≤ length ans)
   going-asks {i} {at} {s} {rep} {ans} g h =
-      let b = inBounds-true F (length (s .tasks)) (length (s .promises)) own (g .good .bounds) in
+      let b = inBounds-true F own s (g .good .bounds) in
       let fits : at + own ≤ length rep = omega (arith, g .room, g .lengths .0, one-less (length rs - i) own (omega arith)) in (
-        inBounds-of F (length (s .tasks)) (length (s .promises)) (length rep - at) (record { some = b .some; tasks = b .tasks; promises = b .promises; room = omega (arith, b .room) }),
+        inBounds-of F (length rep - at) s (record { some = b .some; tasks = b .tasks; promises = b .promises; room = omega (arith, b .room) }),
         omega arith,
         omega (arith, g .answered, g .lengths .1),
       )
@@ -216,7 +217,7 @@ module _ (F : Form) (apart : Apart F) (list : List ℕ) (rs : List Record) (s₀
 
     took-room : at + length (o .words) + (length rs - (i + 1)) * own ≤ length rep₀
     took-room =
-        let b = inBounds-true F (length (s .tasks)) (length (s .promises)) own (g .good .bounds) in
+        let b = inBounds-true F own s (g .good .bounds) in
         let k : (length rs - i - 1) * own ≡ (length rs - (i + 1)) * own = ap (λ (a : ℕ). a * own) (omega arith) in
         omega (arith, g .room, one-less (length rs - i) own (omega arith), k, record-room F list s (recordAt rs i), b .room)
 
@@ -246,7 +247,7 @@ module _ (F : Form) (apart : Apart F) (list : List ℕ) (rs : List Record) (s₀
           few = g .few;
           within = omega arith;
           good = record-good F apart own list s (recordAt rs i) (g .good);
-          sizes = (l .0 ∙ g .sizes .0, l .1 ∙ g .sizes .1);
+          sizes = as-long-too l (g .sizes);
           lengths = (length-sets rep at (o .words) ∙ g .lengths .0, length-sets ans (4 * i) (answerWords (o .answer)) ∙ g .lengths .1);
           room = took-room;
           answered = g .answered;
@@ -256,21 +257,21 @@ module _ (F : Form) (apart : Apart F) (list : List ℕ) (rs : List Record) (s₀
           answers = took-answers;
         }
 
-    pub going-turn : (r : Record) {next : ℕ} {ts ps rep′ ans′ : List ℕ} → r ≡ recordAt rs i → Turns (rawRecord F list s r) at i rep ans next ts ps rep′ ans′ → Going (i + 1) next (tables ts ps) rep′ ans′
-    going-turn r {next} {ts} {ps} {rep′} {ans′} e t =
-        let u = subst (λ (q : Record). Turns (rawRecord F list s q) at i rep ans next ts ps rep′ ans′) e t in
-        rw (u .next-at, u .tasks, u .promises, u .report, u .answers) took
+    pub going-turn : (r : Record) {next : ℕ} {s′ : Tables} {rep′ ans′ : List ℕ} → r ≡ recordAt rs i → Turns (rawRecord F list s r) at i rep ans next s′ rep′ ans′ → Going (i + 1) next s′ rep′ ans′
+    going-turn r {next} {s′} {rep′} {ans′} e t =
+        let u = subst (λ (q : Record). Turns (rawRecord F list s q) at i rep ans next s′ rep′ ans′) e t in
+        rw (u .next-at, u .after, u .report, u .answers) took
 
   -- ---- the two ways out
 
   pub call-refused : {n : ℕ} → n ≡ first (callRows F s₀ (length rs) (length rep₀) (length ans₀)) → n ≢ 0
-      → Batches (batched F list s₀ rs (length rep₀) (length ans₀)) rep₀ ans₀ (Refused n) (s₀ .tasks) (s₀ .promises) rep₀ ans₀
+      → Batches (batched F list s₀ rs (length rep₀) (length ans₀)) rep₀ ans₀ (Refused n) s₀ rep₀ ans₀
   call-refused {n} e h =
       rw (refused-all F list s₀ rs (length rep₀) (length ans₀) (λ z. h (e ∙ z)), ← e)
-      (record { answer = refl; tasks = refl; promises = refl; report = sym (over-none rep₀); answers = sym (over-none ans₀) })
+      (record { answer = refl; after = refl; report = sym (over-none rep₀); answers = sym (over-none ans₀) })
 
   pub going-end : {i at : ℕ} {s : Tables} {rep ans : List ℕ} → first (callRows F s₀ (length rs) (length rep₀) (length ans₀)) ≡ 0 → Going i at s rep ans → length rs ≤ i
-      → Batches (batched F list s₀ rs (length rep₀) (length ans₀)) rep₀ ans₀ (Done at) (s .tasks) (s .promises) rep ans
+      → Batches (batched F list s₀ rs (length rep₀) (length ans₀)) rep₀ ans₀ (Done at) s rep ans
   unfolding lastTables allWords allAnswers
   going-end {i} {at} {s} {rep} {ans} e g h =
       let z : rest i s ≡ [] = no-more F own list s rs i h in
@@ -279,8 +280,7 @@ module _ (F : Form) (apart : Apart F) (list : List ℕ) (rs : List Record) (s₀
       let answers-fit : length (allAnswers all) ≤ length ans₀ = omega (arith, allAnswers-length all, oneByOne-length F own list s₀ rs, g .answered) in
       rw (taken-all F list s₀ rs (length rep₀) (length ans₀) e) (record {
         answer = ap Done count;
-        tasks = ap (λ (x : Tables). x .tasks) last;
-        promises = ap (λ (x : Tables). x .promises) last;
+        after = last;
         report = sym (ap (λ (os : List Outcome). sets rep at (allWords os)) z) ∙ g .words ∙ sym (over-sets (allWords all) rep₀ (omega (arith, g .room, count)));
         answers = sym (ap (λ (os : List Outcome). sets ans (4 * i) (allAnswers os)) z) ∙ g .answers ∙ sym (over-sets (allAnswers all) ans₀ answers-fit);
       })

@@ -7,19 +7,19 @@ use native.Mathlib.Omega.{arith}
 use native.Mathlib.Decide.{ℕ-discrete}
 use borrow.Author.Tests.{eqb-false}
 use lib.ListN.{length, take}
-use Rattle.words.specs.Words.{Form}
+use Rattle.words.specs.Words.{Form, roomFor}
 use Rattle.words.proofs.BoolLaws.{clash}
-use Rattle.words.proofs.WordLaws.{inBounds-true, inBounds-of}
 use Rattle.rules.specs.Tables.{Tables}
 use Rattle.rules.specs.Steps.{Outcome}
 use Rattle.rules.specs.Demands.{Apart, Good, FirstGiven, NoneGiven, Demand3}
+use Rattle.rules.proofs.BoundsLaws.{inBounds-true, inBounds-of}
 use Rattle.rules.proofs.Kept.{fresh-good, good-step}
 use Rattle.rules.proofs.Order.{first-given, given-first, none-first, given-number}
 use Rattle.rules.proofs.RefusalLaws.{Numbered, row, no-row}
 use Rattle.rules.proofs.Promises.{demand-3-of}
 use Rattle.stepping.specs.declared.Record.{Record}
 use Rattle.stepping.specs.Records.{rawRecord, stepRecord}
-use Rattle.batching.specs.Batches.{oneByOne, lastTables, ownReport, Taken, none-left, next, callRows, CallOutcome, done, refused, batched, Batches}
+use Rattle.batching.specs.Batches.{oneByOne, lastTables, Taken, none-left, next, callRows, CallOutcome, done, refused, batched, Batches}
 use Rattle.batching.specs.Reached.{Reached, from-fresh, by-step, by-call}
 use Rattle.batching.specs.declared.Called.{Called}
 use Rattle.batching.specs.declared.Called.the-variants.{Refused, Done}
@@ -52,13 +52,13 @@ module _ (F : Form) (apart : Apart F) (list : List ℕ) where
   -- good tables stay good with a larger report
   good-more : (own n : ℕ) (s : Tables) → own ≤ n → Good F own s → Good F n s
   good-more own n s h g =
-      let b = inBounds-true F (length (s .tasks)) (length (s .promises)) own (g .bounds) in
+      let b = inBounds-true F own s (g .bounds) in
       record {
-        bounds = inBounds-of F (length (s .tasks)) (length (s .promises)) n (record { some = b .some; tasks = b .tasks; promises = b .promises; room = omega (arith, b .room) });
+        bounds = inBounds-of F n s (record { some = b .some; tasks = b .tasks; promises = b .promises; room = omega (arith, b .room) });
         sound = g .sound;
       }
 
-  taken-one-by-one : (own : ℕ) (s : Tables) (rs : List Record) (os : List Outcome) → own ≡ ownReport (length (s .tasks)) (length (s .promises)) → Good F own s → Taken F list s rs os
+  taken-one-by-one : (own : ℕ) (s : Tables) (rs : List Record) (os : List Outcome) → own ≡ roomFor (length (s .tasks)) (length (s .promises)) → Good F own s → Taken F list s rs os
       → os ≡ oneByOne F own list s rs
   unfolding oneByOne
   taken-one-by-one own s [] [] e g none-left = refl
@@ -66,7 +66,7 @@ module _ (F : Form) (apart : Apart F) (list : List ℕ) where
       let x = record-raw F apart n list s r (good-more own n s (omega arith) g) in
       let y = record-raw F apart own list s r g in
       let l = record-lengths F apart own list s r g in
-      let z = taken-one-by-one own (rawRecord F list s r .after) rs os (omega (arith, l .0, l .1)) (record-good F apart own list s r g)
+      let z = taken-one-by-one own (rawRecord F list s r .after) rs os (omega (arith, l .tasks, l .promises)) (record-good F apart own list s r g)
       (subst (λ (a : Outcome). Taken F list (a .after) rs os) x t) in
       rw (x, y) (ap (λ (l : List Outcome). rawRecord F list s r ∷ l) z)
 
@@ -74,14 +74,14 @@ module _ (F : Form) (apart : Apart F) (list : List ℕ) where
       → batched F list s rs m k ≡ done s os
   the-same-one-by-one s rs m k os none t =
       let e = none-first none in
-      let own = ownReport (length (s .tasks)) (length (s .promises)) in
+      let own = roomFor (length (s .tasks)) (length (s .promises)) in
       taken-all F list s rs m k e ∙ ap (done s) (sym (taken-one-by-one own s rs os refl (call-good F s (length rs) m k e apart) t))
 
   -- steps can be taken so from any tables
   pub taken-exist : (s : Tables) (rs : List Record) → (os : List Outcome) × Taken F list s rs os
   taken-exist s [] = ([], none-left)
   taken-exist s (r ∷ rs) =
-      let n = ownReport (length (s .tasks)) (length (s .promises)) in
+      let n = roomFor (length (s .tasks)) (length (s .promises)) in
       let (os, t) = taken-exist (stepRecord F n list s r .after) rs in
       (stepRecord F n list s r ∷ os, next {s = s} n (omega arith) t)
 
@@ -107,7 +107,7 @@ module _ (F : Form) (apart : Apart F) (list : List ℕ) where
     where
       go : Dec (why F list s rs m k ≡ 0) → Good F n (batched F list s rs m k .after)
       go (yes e) =
-          let own = ownReport (length (s .tasks)) (length (s .promises)) in
+          let own = roomFor (length (s .tasks)) (length (s .promises)) in
           subst (λ (o : CallOutcome). Good F n (o .after)) (sym (taken-all F list s rs m k e)) (good-after own n s rs (call-good F s (length rs) m k e apart) g)
       go (no h) = subst (λ (o : CallOutcome). Good F n (o .after)) (sym (refused-all F list s rs m k h)) g
 
@@ -124,6 +124,6 @@ module _ (F : Form) (apart : Apart F) (n : ℕ) where
 
 -- ---- any two outcomes that the contract of a call allows coincide
 
-pub one-call : {o : CallOutcome} {rs ws : List ℕ} {c c′ : Called} {ts ts′ ps ps′ rep rep′ ans ans′ : List ℕ} → Batches o rs ws c ts ps rep ans → Batches o rs ws c′ ts′ ps′ rep′ ans′
-    → (c ≡ c′) × (ts ≡ ts′) × (ps ≡ ps′) × (rep ≡ rep′) × (ans ≡ ans′)
-one-call g h = (g .answer ∙ sym (h .answer), g .tasks ∙ sym (h .tasks), g .promises ∙ sym (h .promises), g .report ∙ sym (h .report), g .answers ∙ sym (h .answers))
+pub one-call : {o : CallOutcome} {rs ws : List ℕ} {c c′ : Called} {s s′ : Tables} {rep rep′ ans ans′ : List ℕ} → Batches o rs ws c s rep ans → Batches o rs ws c′ s′ rep′ ans′
+    → (c ≡ c′) × (s ≡ s′) × (rep ≡ rep′) × (ans ≡ ans′)
+one-call g h = (g .answer ∙ sym (h .answer), g .after ∙ sym (h .after), g .report ∙ sym (h .report), g .answers ∙ sym (h .answers))

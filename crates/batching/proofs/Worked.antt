@@ -1,21 +1,22 @@
 -- The worked batch of specs/WorkedBatch.antt, by computation: with just enough room, and refused with a word less. Assumes nothing.
 use mathlib.Core.Path.{_≡_, refl}
 use mathlib.Core.List.{[]}
-use Rattle.words.specs.Words.{small, sizesInBounds, inBounds}
+use Rattle.words.specs.Words.{small, sizesInBounds}
 use Rattle.words.specs.Lists.{allBelow, is, places, changed}
-use Rattle.rules.specs.Tables.{fresh}
+use Rattle.rules.specs.Tables.{fresh, sizesFit, inBounds}
 use Rattle.rules.specs.Sound.{hop, comes, taskPasses, promisePasses, soundTest}
-use Rattle.rules.specs.Answers.{numberOf, valuesOf, refusedWith, refusedAtWith}
+use Rattle.rules.specs.Answers.{laid, refusedWith, refusedAtWith}
 use Rattle.rules.specs.Refusals.{first, differs, entryRefusal, firstBad}
 use Rattle.rules.specs.Steps.{given, awaits, walk, pairs, followed, got, guarded, started}
 use Rattle.telling.specs.AnswerWords.{answerWords}
-use Rattle.stepping.specs.Records.{stepBy, isAsync}
+use Rattle.kinds.specs.Kinds.{shapeOf, takesList}
+use Rattle.steps.specs.Named.{stepBy}
 use Rattle.batching.specs.Batches.{oneByOne, lastTables, allAnswers, allWords, hasRoom, called, batched}
 use Rattle.batching.specs.WorkedBatch.{workedList, workedRecords, workedOutcome}
 use Rattle.batching.specs.declared.Called.the-variants.{Refused}
 
 pub worked-batch : batched small workedList (fresh 3 4) workedRecords 150 60 ≡ workedOutcome
-unfolding sizesInBounds inBounds allBelow is places changed hop comes taskPasses promisePasses soundTest numberOf valuesOf first differs entryRefusal firstBad given awaits walk pairs followed got guarded started answerWords stepBy isAsync oneByOne lastTables allAnswers allWords hasRoom called refusedWith refusedAtWith
+unfolding sizesInBounds sizesFit inBounds allBelow is places changed hop comes taskPasses promisePasses soundTest laid first differs entryRefusal firstBad given awaits walk pairs followed got guarded started answerWords stepBy shapeOf takesList oneByOne lastTables allAnswers allWords hasRoom called refusedWith refusedAtWith
 worked-batch = refl
 
 pub one-word-less : batched small workedList (fresh 3 4) workedRecords 149 60 ≡ record { answer = Refused 1; after = fresh 3 4; words = []; answers = [] }

@@ -13,20 +13,20 @@
 --   batched F list s rs m k  what a call with a report of m words and k words for the answers makes
 --   Batches ..               what a call leaves of the tables, the report and the answers
 -- Assumes nothing.
-use Prim.Native.Nat.{ℕ, _+_, _*_, _≤_}
+use Prim.Native.Nat.{ℕ, _*_, _≤_}
 use mathlib.Core.Path.{_≡_}
 use mathlib.Core.List.{List, [], _∷_, _++_}
 use mathlib.Core.Bool.{Bool, cond, not, _&&_}
 use lib.Dec.{eqb, leb}
 use lib.ListN.{length, getD}
-use Rattle.words.specs.Words.{Form, sizesInBounds, mostRecords}
+use Rattle.words.specs.Words.{Form, sizesInBounds, roomFor, mostRecords}
 use Rattle.words.specs.Lists.{over}
 use Rattle.rules.specs.Tables.{Tables}
 use Rattle.rules.specs.Sound.{soundTest}
 use Rattle.rules.specs.Refusals.{Row, first}
 use Rattle.rules.specs.Steps.{Outcome}
 use Rattle.telling.specs.AnswerWords.{answerWords}
-use Rattle.stepping.specs.declared.Kind.the-variants.{End}
+use Rattle.kinds.specs.declared.Kind.the-variants.{End}
 use Rattle.stepping.specs.declared.Record.{Record}
 use Rattle.stepping.specs.Records.{stepRecord}
 use Rattle.batching.specs.declared.Called.{Called}
@@ -59,13 +59,9 @@ unfoldable pub allWords : List Outcome → List ℕ
 allWords [] = []
 allWords (o ∷ os) = o .words ++ allWords os
 
--- "room for P + 2T words per record"
-abbrev pub ownReport : ℕ → ℕ → ℕ
-ownReport T P = P + 2 * T
-
 pub data Taken (F : Form) (list : List ℕ) : Tables → List Record → List Outcome → Type 0 where
   none-left : {s : Tables} → Taken F list s [] []
-  next : {s : Tables} {r : Record} {rs : List Record} {os : List Outcome} (n : ℕ) → ownReport (length (s .tasks)) (length (s .promises)) ≤ n
+  next : {s : Tables} {r : Record} {rs : List Record} {os : List Outcome} (n : ℕ) → roomFor (length (s .tasks)) (length (s .promises)) ≤ n
       → Taken F list (stepRecord F n list s r .after) rs os → Taken F list s (r ∷ rs) (stepRecord F n list s r ∷ os)
 
 -- ---- the call
@@ -73,7 +69,7 @@ pub data Taken (F : Form) (list : List ℕ) : Tables → List Record → List Ou
 -- "T or P out of bounds, more than 256 records or too little room is 1 for the call": "The report must have room for P + 2T words per record, and the answers for every record."
 -- An answer record is four words.
 unfoldable pub hasRoom : Form → ℕ → ℕ → ℕ → ℕ → ℕ → Bool
-hasRoom F T P n m k = sizesInBounds F T P && leb n mostRecords && leb (n * ownReport T P) m && leb (4 * n) k
+hasRoom F T P n m k = sizesInBounds F T P && leb n mostRecords && leb (n * roomFor T P) m && leb (4 * n) k
 
 abbrev pub callRows : Form → Tables → ℕ → ℕ → ℕ → List Row
 callRows F s n m k =
@@ -100,12 +96,11 @@ called r s os = cond (eqb r 0) (done s os) (refused r s)
 
 -- "Tables, answers and words must equal those of the same steps taken one by one, each with a report of its own."
 abbrev pub batched : Form → List ℕ → Tables → List Record → ℕ → ℕ → CallOutcome
-batched F list s rs m k = called (first (callRows F s (length rs) m k)) s (oneByOne F (ownReport (length (s .tasks)) (length (s .promises))) list s rs)
+batched F list s rs m k = called (first (callRows F s (length rs) m k)) s (oneByOne F (roomFor (length (s .tasks)) (length (s .promises))) list s rs)
 
 -- "words or answers past the last one given stay as they were"
-pub record Batches (o : CallOutcome) (rs ws : List ℕ) (c : Called) (ts ps rs′ ws′ : List ℕ) : Type 0 where
+pub record Batches (o : CallOutcome) (rs ws : List ℕ) (c : Called) (s′ : Tables) (rs′ ws′ : List ℕ) : Type 0 where
   pub answer : c ≡ o .answer
-  pub tasks : ts ≡ o .after .tasks
-  pub promises : ps ≡ o .after .promises
+  pub after : s′ ≡ o .after
   pub report : rs′ ≡ over (o .words) rs
   pub answers : ws′ ≡ over (o .answers) ws

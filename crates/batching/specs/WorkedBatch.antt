@@ -4,8 +4,8 @@
 use Prim.Native.Nat.{ℕ}
 use mathlib.Core.List.{List, [], _∷_}
 use Rattle.rules.specs.Tables.{tables}
-use Rattle.stepping.specs.declared.Kind.{Kind}
-use Rattle.stepping.specs.declared.Kind.the-variants.{New, Set, Get, Async, End}
+use Rattle.kinds.specs.declared.Kind.{Kind}
+use Rattle.kinds.specs.declared.Kind.the-variants.{New, Set, Get, Async, End}
 use Rattle.stepping.specs.declared.Record.{Record}
 use Rattle.batching.specs.Batches.{CallOutcome}
 use Rattle.batching.specs.declared.Called.the-variants.{Done}

@@ -3,6 +3,7 @@ use sound::is_sound;
 use stepping::Record;
 use stepping::turn;
 use words::Limit;
+use words::room_for;
 use words::sizes_in_bounds;
 ghost use mathlib.Core.Path.{_≡_};
 ghost use Prim.Native.Nat.{_<_};
@@ -34,7 +35,7 @@ fn has_room(tasks: usize, promises: usize, records: usize, report: usize, answer
         return false;
     }
     if sizes_in_bounds(tasks, promises) {
-        let reported = records * (promises + 2 * tasks) <= report;
+        let reported = records * room_for(tasks, promises) <= report;
         let answered = 4 * records <= answers;
         return reported & answered;
     }
@@ -69,7 +70,7 @@ pub fn batch(
     list: &[u16],
     answers: &mut [u16],
 ) -> Called
-    ensures { λ r. ⌜ Batches (batched small (now (list .entry)) (tablesOf (now (tasks .entry)) (now (promises .entry))) (now (records .entry)) (length (now (report .entry))) (length (now (answers .entry)))) (now (report .entry)) (now (answers .entry)) r (now (tasks .exit)) (now (promises .exit)) (now (report .exit)) (now (answers .exit)) ⌝ }
+    ensures { λ r. ⌜ Batches (batched small (now (list .entry)) (tablesOf (now (tasks .entry)) (now (promises .entry))) (now (records .entry)) (length (now (report .entry))) (length (now (answers .entry)))) (now (report .entry)) (now (answers .entry)) r (tablesOf (now (tasks .exit)) (now (promises .exit))) (now (report .exit)) (now (answers .exit)) ⌝ }
 {
     let refusal = call_refusal(tasks, promises, records.len(), report.len(), answers.len());
     if refusal != 0 {

@@ -8,6 +8,7 @@ use lib.ListN.{length, take, drop, length-drop, drop-of-length-le, replicate}
 use lib.Seq.{length-take-le}
 use borrow.Rule.Slice.PartMut.{putMid}
 use Rattle.words.proofs.BoolLaws.{clash}
+use Rattle.rules.specs.Tables.{Tables, tables}
 use Rattle.buffers.proofs.BufferLaws.{rest-lent}
 use Rattle.gather.specs.Gather.{isLast}
 use Rattle.sessions.specs.declared.Session.the-variants.{Unopened}
@@ -30,14 +31,14 @@ put-back x n p =
     rw (z, append-nil)
 
 -- what was served into the rest of the output array is what the state carries on; `was` is the state before, and s the one with room for an answer
-pub carried : (b : List ℕ) (was s : State) (x ts ps rs out : List ℕ) {q : Served} {x′ ts′ ps′ rs′ out′ : List ℕ} {r : State}
+pub carried : (b : List ℕ) (was s : State) (x : List ℕ) (st : Tables) (rs out : List ℕ) {q : Served} {x′ : List ℕ} {st′ : Tables} {rs′ out′ : List ℕ} {r : State}
     → s .from ≡ was .from → s .have ≡ was .have → s .lines ≡ was .lines → s .session ≡ was .session
-    → Serves (turnOf b (s .from) x (s .have) (s .lines) (s .session) ts ps rs (take (length out - s .used) (drop (s .used) out))) q x′ ts′ ps′ rs′ out′
+    → Serves (turnOf b (s .from) x (s .have) (s .lines) (s .session) st rs (take (length out - s .used) (drop (s .used) out))) q x′ st′ rs′ out′
     → r .from ≡ q .next → r .have ≡ q .have → r .lines ≡ q .lines → r .session ≡ q .session → r .used ≡ s .used + q .bytes → (r .going ≡ true → q .going ≡ true)
     → s .used + 2048 ≤ length out → (0 < s .used → s .used ≡ was .used)
-    → (n : ℕ) × (n + 2048 ≤ length out) × (0 < n → n ≡ was .used) × Carries (turnOf b (was .from) x (was .have) (was .lines) (was .session) ts ps rs (drop n out)) n out r x′ ts′ ps′ rs′ (putMid (s .used) (length out - s .used) out out′)
-carried b was s x ts ps rs out {q} {x′} {ts′} {ps′} {rs′} {out′} e₁ e₂ e₃ e₄ v f g h i u k l m =
-    let w = subst (λ (o : List ℕ). Serves (turnOf b (s .from) x (s .have) (s .lines) (s .session) ts ps rs o) q x′ ts′ ps′ rs′ out′) (rest-lent out (s .used)) v in (
+    → (n : ℕ) × (n + 2048 ≤ length out) × (0 < n → n ≡ was .used) × Carries (turnOf b (was .from) x (was .have) (was .lines) (was .session) st rs (drop n out)) n out r x′ st′ rs′ (putMid (s .used) (length out - s .used) out out′)
+carried b was s x st rs out {q} {x′} {st′} {rs′} {out′} e₁ e₂ e₃ e₄ v f g h i u k l m =
+    let w = subst (λ (o : List ℕ). Serves (turnOf b (s .from) x (s .have) (s .lines) (s .session) st rs o) q x′ st′ rs′ out′) (rest-lent out (s .used)) v in (
       s .used,
       l,
       m,
@@ -50,8 +51,7 @@ carried b was s x ts ps rs out {q} {x′} {ts′} {ps′} {rs′} {out′} e₁ 
             used = u ∙ ap (λ (j : ℕ). s .used + j) (w .bytes);
             going = λ e. sym (w .going) ∙ k e;
             line = w .line;
-            tasks = w .tasks;
-            promises = w .promises;
+            after = w .after;
             report = w .report;
             answer = put-back out (s .used) out′ ∙ ap (λ (y : List ℕ). take (s .used) out ++ y) (w .answer);
           }),
@@ -97,61 +97,59 @@ waits-more s o u y n k l e w = record {
 -- ---- the lines of a block
 
 -- another state where the desk's part is the same
-pub at-same : (d : Desk) (was s : State) (x ts ps rs o : List ℕ) → s .have ≡ was .have → s .lines ≡ was .lines → s .session ≡ was .session → s .going ≡ was .going → s .used ≡ was .used
-    → At d was x ts ps rs o → At d s x ts ps rs o
-at-same d was s x ts ps rs o e₁ e₂ e₃ e₄ e₅ h = record {
+pub at-same : (d : Desk) (was s : State) (x : List ℕ) (st : Tables) (rs o : List ℕ) → s .have ≡ was .have → s .lines ≡ was .lines → s .session ≡ was .session → s .going ≡ was .going → s .used ≡ was .used
+    → At d was x st rs o → At d s x st rs o
+at-same d was s x st rs o e₁ e₂ e₃ e₄ e₅ h = record {
   buffer = rw e₁ (h .buffer);
   lines = h .lines ∙ sym e₂;
   session = h .session ∙ sym e₃;
-  tasks = h .tasks;
-  promises = h .promises;
+  after = h .after;
   report = h .report;
   going = λ g. h .going (sym e₄ ∙ g);
   waits = rw e₅ (h .waits);
 }
 
 -- nothing is taken yet at the start of the block
-pub fed-none : (d : Desk) (b : List ℕ) (s : State) (x ts ps rs o : List ℕ) → s .from ≡ 0 → At d s x ts ps rs o → Fed d b 0 s x ts ps rs o
-fed-none d b s x ts ps rs o e h = record { desk = d; bytes = ap (λ (i : ℕ). feed d (drop i b)) (sym e); at = h }
+pub fed-none : (d : Desk) (b : List ℕ) (s : State) (x : List ℕ) (st : Tables) (rs o : List ℕ) → s .from ≡ 0 → At d s x st rs o → Fed d b 0 s x st rs o
+fed-none d b s x st rs o e h = record { desk = d; bytes = ap (λ (i : ℕ). feed d (drop i b)) (sym e); at = h }
 
 -- what a turn takes and carries on
-taken : (d d′ : Desk) (b : List ℕ) (from : ℕ) (t : Turn) (n : ℕ) (o : List ℕ) (r : State) (x ts ps rs out : List ℕ) → n ≤ length o → Waiting (d .said) n o
-    → Takes d b from t d′ → Carries t n o r x ts ps rs out → Fed d b from r x ts ps rs out
-taken d d′ b from t n o r x ts ps rs out l w k c = record {
+taken : (d d′ : Desk) (b : List ℕ) (from : ℕ) (t : Turn) (n : ℕ) (o : List ℕ) (r : State) (x : List ℕ) (st : Tables) (rs out : List ℕ) → n ≤ length o → Waiting (d .said) n o
+    → Takes d b from t d′ → Carries t n o r x st rs out → Fed d b from r x st rs out
+taken d d′ b from t n o r x st rs out l w k c = record {
   desk = d′;
   bytes = k .bytes ∙ ap (λ (i : ℕ). feed d′ (drop i b)) (sym (c .from));
   at = record {
     buffer = rw (c .line, c .have) (k .buffer);
     lines = k .lines ∙ sym (c .lines);
     session = k .session ∙ sym (c .session);
-    tasks = k .tasks ∙ sym (c .tasks);
-    promises = k .promises ∙ sym (c .promises);
+    after = k .after ∙ sym (c .after);
     report = k .report ∙ sym (c .report);
     going = λ g. k .going ∙ c .going g;
     waits = rw (c .used, k .said) (waits-more (d .said) o (t .out) out n (t .bytes) l (c .answer) w);
   };
 }
 
-module _ (b : List ℕ) (was r : State) (x ts ps rs o x′ ts′ ps′ rs′ o′ : List ℕ) where
+module _ (b : List ℕ) (was r : State) (x : List ℕ) (st : Tables) (rs o x′ : List ℕ) (st′ : Tables) (rs′ o′ : List ℕ) where
   -- one line more, from where the desk d is
   fed-line : (d : Desk) → was .from < length b → was .going ≡ true
-      → ((n : ℕ) × (n + 2048 ≤ length o) × (0 < n → n ≡ was .used) × Carries (turnOf b (was .from) x (was .have) (was .lines) (was .session) ts ps rs (drop n o)) n o r x′ ts′ ps′ rs′ o′)
-      → At d was x ts ps rs o → Fed d b (was .from) r x′ ts′ ps′ rs′ o′
+      → ((n : ℕ) × (n + 2048 ≤ length o) × (0 < n → n ≡ was .used) × Carries (turnOf b (was .from) x (was .have) (was .lines) (was .session) st rs (drop n o)) n o r x′ st′ rs′ o′)
+      → At d was x st rs o → Fed d b (was .from) r x′ st′ rs′ o′
   fed-line d l g (n, m, k, c) h =
       let t = serve-takes d b (was .from) x (was .have) (drop n o) (omega (arith, length-drop n o)) l (h .going g) (h .buffer) in
-      taken d (t .0) b (was .from) (turnOf b (was .from) x (was .have) (was .lines) (was .session) ts ps rs (drop n o)) n o r x′ ts′ ps′ rs′ o′ (omega arith) (waits-on (d .said) o (was .used) n k (h .waits))
-      (rw (← h .lines, ← h .session, ← h .tasks, ← h .promises, ← h .report) (t .1)) c
+      taken d (t .0) b (was .from) (turnOf b (was .from) x (was .have) (was .lines) (was .session) st rs (drop n o)) n o r x′ st′ rs′ o′ (omega arith) (waits-on (d .said) o (was .used) n k (h .waits))
+      (rw (← h .lines, ← h .session, ← h .after, ← h .report) (t .1)) c
 
   -- one line more, after those that were taken
   pub fed-more : (d : Desk) (i : ℕ) → was .from < length b → was .going ≡ true
-      → ((n : ℕ) × (n + 2048 ≤ length o) × (0 < n → n ≡ was .used) × Carries (turnOf b (was .from) x (was .have) (was .lines) (was .session) ts ps rs (drop n o)) n o r x′ ts′ ps′ rs′ o′)
-      → Fed d b i was x ts ps rs o → Fed d b i r x′ ts′ ps′ rs′ o′
+      → ((n : ℕ) × (n + 2048 ≤ length o) × (0 < n → n ≡ was .used) × Carries (turnOf b (was .from) x (was .have) (was .lines) (was .session) st rs (drop n o)) n o r x′ st′ rs′ o′)
+      → Fed d b i was x st rs o → Fed d b i r x′ st′ rs′ o′
   fed-more d i l g c f = let t = fed-line (f .desk) l g c (f .at) in record { desk = t .desk; bytes = f .bytes ∙ t .bytes; at = t .at }
 
 -- A BLOCK THAT WAS TAKEN WHOLE: the program is where the desk is after the block's bytes
-pub fed-all : (d : Desk) (b : List ℕ) (r : State) (x ts ps rs o : List ℕ) → r .from ≡ length b → Fed d b 0 r x ts ps rs o → At (feed d b) r x ts ps rs o
+pub fed-all : (d : Desk) (b : List ℕ) (r : State) (x : List ℕ) (st : Tables) (rs o : List ℕ) → r .from ≡ length b → Fed d b 0 r x st rs o → At (feed d b) r x st rs o
 unfolding feed
-fed-all d b r x ts ps rs o e f = subst (λ (y : Desk). At y r x ts ps rs o) (sym (f .bytes ∙ ap (λ (s : List ℕ). feed (f .desk) s) none)) (f .at)
+fed-all d b r x st rs o e f = subst (λ (y : Desk). At y r x st rs o) (sym (f .bytes ∙ ap (λ (s : List ℕ). feed (f .desk) s) none)) (f .at)
   where
     none : drop (r .from) b ≡ []
     none = let z : length b ≤ r .from = omega arith in drop-of-length-le b z
@@ -160,27 +158,25 @@ fed-all d b r x ts ps rs o e f = subst (λ (y : Desk). At y r x ts ps rs o) (sym
 
 -- THE PROGRAM STARTS WHERE THE DESK OPENS, with any line buffer of the right length, with empty tables and with any output array
 pub opening-at : (s : State) (x o : List ℕ) → length x ≡ 2048 → s .used ≡ 0 → s .have ≡ 0 → s .lines ≡ 0 → s .session ≡ Unopened
-    → At opening s x (replicate 64 0) (replicate 256 0) (replicate 384 0) o
+    → At opening s x (tables (replicate 64 0) (replicate 256 0)) (replicate 384 0) o
 opening-at s x o l e₁ e₂ e₃ e₄ = record {
   buffer = rw e₂ (opening-buffered x l);
   lines = sym e₃;
   session = sym e₄;
-  tasks = refl;
-  promises = refl;
+  after = refl;
   report = refl;
   going = λ g. refl;
   waits = rw e₁ (record { gone = []; rest = refl });
 }
 
 -- putting out what waits leaves the program where it is
-pub at-put-out : (d : Desk) (s r : State) (x ts ps rs o : List ℕ) → r .used ≡ 0 → r .have ≡ s .have → r .lines ≡ s .lines → r .session ≡ s .session
-    → (r .going ≡ true → s .going ≡ true) → At d s x ts ps rs o → At d r x ts ps rs o
-at-put-out d s r x ts ps rs o e₁ e₂ e₃ e₄ e₅ h = record {
+pub at-put-out : (d : Desk) (s r : State) (x : List ℕ) (st : Tables) (rs o : List ℕ) → r .used ≡ 0 → r .have ≡ s .have → r .lines ≡ s .lines → r .session ≡ s .session
+    → (r .going ≡ true → s .going ≡ true) → At d s x st rs o → At d r x st rs o
+at-put-out d s r x st rs o e₁ e₂ e₃ e₄ e₅ h = record {
   buffer = rw e₂ (h .buffer);
   lines = h .lines ∙ sym e₃;
   session = h .session ∙ sym e₄;
-  tasks = h .tasks;
-  promises = h .promises;
+  after = h .after;
   report = h .report;
   going = λ g. h .going (e₅ g);
   waits = rw e₁ (waits-on (d .said) o (s .used) 0 (λ z. absurd (omega arith)) (h .waits));
@@ -194,19 +190,18 @@ none-fed : (d : Desk) → isLast (length (d .begun)) ≡ false → ended d ≡ d
 unfolding ended
 none-fed d e = rw e
 
-ends-at : (d y : Desk) (r : State) (x ts ps rs o : List ℕ) → ended d ≡ y → At y r x ts ps rs o → Ends d ts ps rs
-ends-at d y r x ts ps rs o e a = record {
-  tasks = sym (ap (λ (z : Desk). z .tasks) e ∙ a .tasks);
-  promises = sym (ap (λ (z : Desk). z .promises) e ∙ a .promises);
+ends-at : (d y : Desk) (r : State) (x : List ℕ) (st : Tables) (rs o : List ℕ) → ended d ≡ y → At y r x st rs o → Ends d st rs
+ends-at d y r x st rs o e a = record {
+  after = sym (ap (λ (z : Desk). z .after) e ∙ a .after);
   report = sym (ap (λ (z : Desk). z .report) e ∙ a .report);
 }
 
 -- a last line without LF is served as if it had one
-pub ends-served : (d : Desk) (s r : State) (x ts ps rs o x′ ts′ ps′ rs′ o′ : List ℕ) → isLast (s .have) ≡ true → At d s x ts ps rs o → r .from ≡ 1 → Fed d (10 ∷ []) 0 r x′ ts′ ps′ rs′ o′
-    → Ends d ts′ ps′ rs′
-ends-served d s r x ts ps rs o x′ ts′ ps′ rs′ o′ e h z f =
-    ends-at d (feed d (10 ∷ [])) r x′ ts′ ps′ rs′ o′ (last-fed d (sym (last-is-last d x (s .have) (h .buffer)) ∙ e)) (fed-all d (10 ∷ []) r x′ ts′ ps′ rs′ o′ z f)
+pub ends-served : (d : Desk) (s r : State) (x : List ℕ) (st : Tables) (rs o x′ : List ℕ) (st′ : Tables) (rs′ o′ : List ℕ) → isLast (s .have) ≡ true → At d s x st rs o → r .from ≡ 1 → Fed d (10 ∷ []) 0 r x′ st′ rs′ o′
+    → Ends d st′ rs′
+ends-served d s r x st rs o x′ st′ rs′ o′ e h z f =
+    ends-at d (feed d (10 ∷ [])) r x′ st′ rs′ o′ (last-fed d (sym (last-is-last d x (s .have) (h .buffer)) ∙ e)) (fed-all d (10 ∷ []) r x′ st′ rs′ o′ z f)
 
 -- where no line has begun, nothing is left to do
-pub ends-none : (d : Desk) (s : State) (x ts ps rs o : List ℕ) → isLast (s .have) ≡ false → At d s x ts ps rs o → Ends d ts ps rs
-ends-none d s x ts ps rs o e h = ends-at d d s x ts ps rs o (none-fed d (sym (last-is-last d x (s .have) (h .buffer)) ∙ e)) h
+pub ends-none : (d : Desk) (s : State) (x : List ℕ) (st : Tables) (rs o : List ℕ) → isLast (s .have) ≡ false → At d s x st rs o → Ends d st rs
+ends-none d s x st rs o e h = ends-at d d s x st rs o (none-fed d (sym (last-is-last d x (s .have) (h .buffer)) ∙ e)) h

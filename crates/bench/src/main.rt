@@ -7,6 +7,7 @@ ghost use mathlib.Core.Path.{_≡_};
 ghost use Prim.Native.Nat.{ℕ, _+_, _≤_, _<_};
 ghost use mathlib.Core.Bool.{true};
 ghost use lib.ListN.{length, drop};
+ghost use Rattle.rules.specs.Tables.{tables as tablesOf};
 ghost use Rattle.sessions.specs.declared.Session.the-variants.{Unopened};
 ghost use Rattle.serving.specs.Serving.{turnOf};
 ghost use Rattle.serving.specs.Input.{Desk};
@@ -81,7 +82,7 @@ fn serve_line(
 ) -> State
     requires { ⌜ (was .from < length (now block)) × (was .used ≤ length (now out)) × (length (now out) ≡ 32768) ⌝ }
     ensures { λ r. ⌜ (was .from < r .from) × (r .from ≤ length (now (block .entry))) × (r .used ≤ length (now (out .entry))) ⌝ }
-    ensures { λ r. ⌜ ((n : ℕ) × (n + 2048 ≤ length (now (out .entry))) × (0 < n → n ≡ was .used) × Carries (turnOf (now (block .entry)) (was .from) (now (line .entry)) (was .have) (was .lines) (was .session) (now (tasks .entry)) (now (promises .entry)) (now (report .entry)) (drop n (now (out .entry)))) n (now (out .entry)) r (now (line .exit)) (now (tasks .exit)) (now (promises .exit)) (now (report .exit)) (now (out .exit))) ⌝ }
+    ensures { λ r. ⌜ ((n : ℕ) × (n + 2048 ≤ length (now (out .entry))) × (0 < n → n ≡ was .used) × Carries (turnOf (now (block .entry)) (was .from) (now (line .entry)) (was .have) (was .lines) (was .session) (tablesOf (now (tasks .entry)) (now (promises .entry))) (now (report .entry)) (drop n (now (out .entry)))) n (now (out .entry)) r (now (line .exit)) (tablesOf (now (tasks .exit)) (now (promises .exit))) (now (report .exit)) (now (out .exit))) ⌝ }
 {
     let s = with_room(out, was);
     let used = s.used;
@@ -136,7 +137,7 @@ fn serve_block(
 ) -> State
     requires { ⌜ (was .used ≤ length (now out)) × (length (now out) ≡ 32768) ⌝ }
     ensures { λ r. ⌜ (r .used ≤ length (now (out .entry))) × (r .from ≤ length (now (block .entry))) × (r .going ≡ true → r .from ≡ length (now (block .entry))) × (was .going ≡ true → 0 < length (now (block .entry)) → 0 < r .from) ⌝ }
-    ensures { λ r. ⌜ ((d : Desk) → At d was (now (line .entry)) (now (tasks .entry)) (now (promises .entry)) (now (report .entry)) (now (out .entry)) → Fed d (now (block .entry)) 0 r (now (line .exit)) (now (tasks .exit)) (now (promises .exit)) (now (report .exit)) (now (out .exit))) ⌝ }
+    ensures { λ r. ⌜ ((d : Desk) → At d was (now (line .entry)) (tablesOf (now (tasks .entry)) (now (promises .entry))) (now (report .entry)) (now (out .entry)) → Fed d (now (block .entry)) 0 r (now (line .exit)) (tablesOf (now (tasks .exit)) (now (promises .exit))) (now (report .exit)) (now (out .exit))) ⌝ }
 {
     let mut s = at_start(was);
     while s.from < block.len() {
@@ -158,7 +159,7 @@ fn finish(
     s: State,
 )
     requires { ⌜ (s .used ≤ length (now out)) × (length (now out) ≡ 32768) ⌝ }
-    ensures { λ r. ⌜ ((d : Desk) → At d s (now (line .entry)) (now (tasks .entry)) (now (promises .entry)) (now (report .entry)) (now (out .entry)) → s .going ≡ true → Ends d (now (tasks .exit)) (now (promises .exit)) (now (report .exit))) ⌝ }
+    ensures { λ r. ⌜ ((d : Desk) → At d s (now (line .entry)) (tablesOf (now (tasks .entry)) (now (promises .entry))) (now (report .entry)) (now (out .entry)) → s .going ≡ true → Ends d (tablesOf (now (tasks .exit)) (now (promises .exit))) (now (report .exit))) ⌝ }
 {
     if gather::is_last(s.have) {
         let last = serve_block(b"\n", line, tasks, promises, report, out, s);

@@ -2,6 +2,8 @@
 ghost use Prim.Native.Nat.{_+_, _≤_, _<_};
 ghost use lib.ListN.{length};
 use rules::Answer;
+use rules::Part;
+use telling::layout;
 
 // The bytes as they are.
 pub fn text(bytes: &[u8]) {
@@ -20,35 +22,20 @@ pub fn number(w: u16) {
     io::print_decimal(1, w as u64);
 }
 
-// An answer's number and its value.
-fn with_value(answer: u16, value: u16) {
-    number(answer);
-    number(value);
+// A value, where there is one.
+fn part(p: Part) {
+    if p.told {
+        number(p.value);
+    }
 }
 
 // The answer's number and its values.
 pub fn answer(a: Answer) {
-    match a {
-        Answer::Opened => number(100),
-        Answer::Made => number(101),
-        Answer::Set(n) => with_value(102, n),
-        Answer::Value => number(103),
-        Answer::Blamed(b) => with_value(104, b),
-        Answer::Waits(k) => with_value(105, k),
-        Answer::Cycle(k) => with_value(106, k),
-        Answer::Started => number(107),
-        Answer::Ended { omitted, woken } => {
-            with_value(108, omitted);
-            number(woken);
-        }
-        Answer::Refused(r) => number(r),
-        Answer::RefusedAt { number: n, place } => with_value(n, place),
-        Answer::RefusedBlamed(b) => with_value(17, b),
-        Answer::RefusedBlamedAt { place, blamed } => {
-            with_value(17, place);
-            number(blamed);
-        }
-    }
+    let l = layout(a);
+    number(l.number);
+    part(l.first);
+    part(l.second);
+    part(l.third);
 }
 
 // The end of a step's line, which says whether every word was kept.

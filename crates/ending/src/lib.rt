@@ -4,11 +4,11 @@ ghost use mathlib.Core.Bool.{true};
 ghost use Prim.Native.Nat.{_+_, _≤_};
 ghost use lib.ListN.{length};
 ghost use lib.Seq.{sets};
-ghost use Rattle.words.specs.Words.{small, inBounds, readyWord};
+ghost use Rattle.words.specs.Words.{small, readyWord};
 ghost use Rattle.words.specs.Lists.{places, changed, replaced};
-ghost use Rattle.rules.specs.Tables.{tables as tablesOf};
-ghost use Rattle.rules.specs.Steps.{step-end, raw, step, awaits};
-ghost use Rattle.rules.specs.Contracts.{Gives};
+ghost use Rattle.rules.specs.Tables.{tables as tablesOf, inBounds};
+ghost use Rattle.rules.specs.Steps.{step-end, awaits};
+ghost use Rattle.rules.specs.Contracts.{Takes, TakesRaw};
 use guards::actor_refusal;
 use rules::Answer;
 use sound::table_refusal;
@@ -70,8 +70,8 @@ fn wake_waiting(tasks: &mut [u16], promises: &[u16], v: u16)
 
 // The step without refusals 1 and 2, for a caller that has tested the bounds and the tables. Who waits is found before the promises are blamed.
 pub fn raw_end(tasks: &mut [u16], promises: &mut [u16], report: &mut [u16], t: u16) -> Answer
-    requires { ⌜ inBounds small (length (now tasks)) (length (now promises)) (length (now report)) ≡ true ⌝ }
-    ensures { λ r. ⌜ Gives (raw small (tablesOf (now (tasks .entry)) (now (promises .entry))) (step-end t)) (now (report .entry)) r (now (tasks .exit)) (now (promises .exit)) (now (report .exit)) ⌝ }
+    requires { ⌜ inBounds small (length (now report)) (tablesOf (now tasks) (now promises)) ≡ true ⌝ }
+    ensures { λ r. ⌜ TakesRaw small (step-end t) (tablesOf (now (tasks .entry)) (now (promises .entry))) (now (report .entry)) r (tablesOf (now (tasks .exit)) (now (promises .exit))) (now (report .exit)) ⌝ }
 {
     let r = actor_refusal(tasks, t);
     if r != 0 {
@@ -95,7 +95,7 @@ pub fn raw_end(tasks: &mut [u16], promises: &mut [u16], report: &mut [u16], t: u
 
 // The step: for tables and a report of any lengths, with any words in them, and any numbers.
 pub fn step_end(tasks: &mut [u16], promises: &mut [u16], report: &mut [u16], t: u16) -> Answer
-    ensures { λ r. ⌜ Gives (step small (length (now (report .entry))) (tablesOf (now (tasks .entry)) (now (promises .entry))) (step-end t)) (now (report .entry)) r (now (tasks .exit)) (now (promises .exit)) (now (report .exit)) ⌝ }
+    ensures { λ r. ⌜ Takes small (step-end t) (tablesOf (now (tasks .entry)) (now (promises .entry))) (now (report .entry)) r (tablesOf (now (tasks .exit)) (now (promises .exit))) (now (report .exit)) ⌝ }
 {
     let d = table_refusal(tasks, promises, report.len());
     if d != 0 {

@@ -11,11 +11,15 @@ use borrow.Author.Tests.{ne-eqb, le-leb, ltb-true, ltb-false}
 use lib.ListN.{length, take, drop, length-drop, take-append-drop}
 use lib.Seq.{take-add}
 use Rattle.fields.specs.Fields.{fieldEnd, fieldAt}
+use Rattle.kinds.specs.Kinds.{shapeOf}
+use Rattle.kinds.specs.declared.Kind.{Kind}
+use Rattle.kinds.specs.declared.Shape.{Shape}
+use Rattle.kinds.specs.declared.Shape.the-variants as H
 use Rattle.keywords.specs.Keywords.{keywordOf}
 use Rattle.keywords.specs.declared.Keyword.{Keyword}
 use Rattle.keywords.specs.declared.Keyword.the-variants as W
 use Rattle.keywords.proofs.LookupLaws.{true-not-false}
-use Rattle.records.specs.Records.{numberAt, withSecond, withFirst, pairAt, lastPair, ofPair, ofAsync, ofEnd, afterWord, recordOf}
+use Rattle.records.specs.Records.{numberAt, withSecond, withFirst, pairAt, lastPair, ofPair, ofList, ofOne, afterKind, afterWord, recordOf}
 use Rattle.records.proofs.RecordLaws.{numberAt-ends}
 use Rattle.records.specs.declared.Numbered.{Numbered}
 use Rattle.records.specs.declared.Numbered.the-variants as S
@@ -27,20 +31,16 @@ use Rattle.lists.specs.declared.Listed.{Listed}
 use Rattle.lists.specs.declared.Listed.the-variants as E
 use Rattle.forms.specs.declared.Form.{Form}
 use Rattle.forms.specs.declared.Form.the-variants as F
-use Rattle.forms.specs.Forms.{takes, BadAt}
+use Rattle.forms.specs.Forms.{takesShape, takes, BadAt}
 use Rattle.forms.specs.Judging.{withList, ofRecord}
 use Rattle.forms.proofs.Parsed.{Parsed}
 use Rattle.forms.proofs.Place.{At, end-well, tab-bad, next-well, next-bad}
-use Rattle.forms.proofs.First.{word-well, word-bad}
+use Rattle.forms.proofs.First.{least, least-taken, word-well, word-bad}
 
 -- whether an answer is one of the forms
 unfoldable pub isGood : Form → Bool
 isGood (F.Open a b) = true
-isGood (F.New t p) = true
-isGood (F.Set t p) = true
-isGood (F.Get t p) = true
-isGood (F.Async t c n) = true
-isGood (F.End t) = true
+isGood (F.Step k a b n) = true
 isGood (F.Bad c) = false
 
 -- what an answer promises
@@ -48,7 +48,7 @@ pub data Verdict (s : List ℕ) : Form → Type 0 where
   verdict-well : (f : Form) → isGood f ≡ true → Parsed s → Verdict s f
   verdict-bad : (c : ℕ) → BadAt Parsed s c → Verdict s (F.Bad c)
 
--- ---- the list of an async: any number of numbers
+-- ---- the list of a step: any number of numbers
 
 pub data ListJudged (L : List ℕ → Type 0) (s : List ℕ) : Listed → Type 0 where
   list-well : (n : ℕ) → L s → ListJudged L s (E.All n)
@@ -97,14 +97,14 @@ module _ (L : List ℕ → Type 0) (s : List ℕ) (e : ℕ) where
 
 module _ (s : List ℕ) (e : ℕ) (ok : ℕ → Bool) (a : At Parsed s e ok) where
   -- one number
-  module _ (o0 : ok 0 ≡ false) (o1 : ok 1 ≡ true) (o2 : (k : ℕ) → ok (suc (suc k)) ≡ false) where
-    one-last : (v i : ℕ) → numberAt s e ≡ S.Is v i → (b : Bool) → ltb i (length s) ≡ b → Verdict s (ofRecord s (cond b (R.Bad i) (R.End v)))
+  module _ (w : Kind) (o0 : ok 0 ≡ false) (o1 : ok 1 ≡ true) (o2 : (k : ℕ) → ok (suc (suc k)) ≡ false) where
+    one-last : (v i : ℕ) → numberAt s e ≡ S.Is v i → (b : Bool) → ltb i (length s) ≡ b → Verdict s (ofRecord s (cond b (R.Bad i) (R.Plain w v 0)))
     unfolding ofRecord isGood
     one-last v i q true b = verdict-bad i (tab-bad Parsed s i (λ k. ok (suc k)) (next-well Parsed s e ok a v i q) (ltb-true i (length s) b) o1 o2)
     one-last v i q false b = verdict-well _ refl (end-well Parsed s i (λ k. ok (suc k)) (next-well Parsed s e ok a v i q) (ltb-false i (length s) b) o1)
 
-    pub one-judged : (r : Numbered) → numberAt s e ≡ r → Verdict s (ofRecord s (ofEnd s r))
-    unfolding ofEnd ofRecord isGood
+    pub one-judged : (r : Numbered) → numberAt s e ≡ r → Verdict s (ofRecord s (ofOne w s r))
+    unfolding ofOne ofRecord isGood
     one-judged (S.Bad c) q = verdict-bad c (next-bad Parsed s e ok a 0 o1 (λ h. o0) c q)
     one-judged (S.Is v i) q = one-last v i q (ltb i (length s)) refl
 
@@ -131,39 +131,46 @@ module _ (s : List ℕ) (e : ℕ) (ok : ℕ → Bool) (a : At Parsed s e ok) whe
     two-judged = two-first (numberAt s e) refl
 
   -- two numbers, and any number of them
-  module _ (o0 : ok 0 ≡ false) (o1 : ok 1 ≡ false) (o2 : (k : ℕ) → ok (suc (suc k)) ≡ true) where
-    many-last : (i : ℕ) → i ≤ length s → (u v : ℕ) {r : Listed} → ListJudged (λ x. Parsed (take i s ++ x)) (drop i s) r → Verdict s (withList u v i r)
+  module _ (w : Kind) (o0 : ok 0 ≡ false) (o1 : ok 1 ≡ false) (o2 : (k : ℕ) → ok (suc (suc k)) ≡ true) where
+    many-last : (i : ℕ) → i ≤ length s → (u v : ℕ) {r : Listed} → ListJudged (λ x. Parsed (take i s ++ x)) (drop i s) r → Verdict s (withList w u v i r)
     unfolding withList isGood
     many-last i h u v (list-well n l) = verdict-well _ refl (subst Parsed (take-append-drop i s) l)
     many-last i h u v (list-bad c b) = verdict-bad (i + c) (lift Parsed s i c b h)
 
-    many-then : (u i : ℕ) → At Parsed s i (λ k. ok (suc k)) → (r : Numbered) → numberAt s i ≡ r → Verdict s (ofRecord s (ofAsync (withSecond u r)))
-    unfolding withSecond ofAsync ofRecord isGood listOf
+    many-then : (u i : ℕ) → At Parsed s i (λ k. ok (suc k)) → (r : Numbered) → numberAt s i ≡ r → Verdict s (ofRecord s (ofList w (withSecond u r)))
+    unfolding withSecond ofList ofRecord isGood listOf
     many-then u i g (S.Bad c) q = verdict-bad c (next-bad Parsed s i (λ k. ok (suc k)) g 0 (o2 0) (λ h. o1) c q)
     many-then u i g (S.Is v j) q =
         let g′ = next-well Parsed s i (λ k. ok (suc k)) g v j q in
         many-last j (g′ .within) u v
         (list-judged (λ x. Parsed (take j s ++ x)) (drop j s) (length (drop j s)) 0 0 (λ k. ok (suc (suc k))) o2 (behind Parsed s j (λ k. ok (suc (suc k))) g′) (omega arith))
 
-    many-first : (r : Numbered) → numberAt s e ≡ r → Verdict s (ofRecord s (ofAsync (withFirst s r)))
-    unfolding withFirst ofAsync ofRecord isGood
+    many-first : (r : Numbered) → numberAt s e ≡ r → Verdict s (ofRecord s (ofList w (withFirst s r)))
+    unfolding withFirst ofList ofRecord isGood
     many-first (S.Bad c) q = verdict-bad c (next-bad Parsed s e ok a 1 (o2 0) (λ h. o0) c q)
     many-first (S.Is u i) q = many-then u i (next-well Parsed s e ok a u i q) (numberAt s i) refl
 
-    pub many-judged : Verdict s (ofRecord s (ofAsync (pairAt s e)))
+    pub many-judged : Verdict s (ofRecord s (ofList w (pairAt s e)))
     unfolding pairAt
     many-judged = many-first (numberAt s e) refl
 
 -- ---- the line
 
+-- what stands behind the word of a kind that takes h
+at-kind : (s : List ℕ) (k : Kind) (h : Shape) → shapeOf k ≡ h → keywordOf (fieldAt s 0) ≡ W.Step k → At Parsed s (fieldEnd s 0) (takesShape h)
+unfolding takes
+at-kind s k h q e = subst (λ (g : Shape). At Parsed s (fieldEnd s 0) (takesShape g)) q (word-well s (W.Step k) (least (shapeOf k)) (least-taken (shapeOf k)) e)
+
+by-kind : (s : List ℕ) (k : Kind) (h : Shape) → shapeOf k ≡ h → keywordOf (fieldAt s 0) ≡ W.Step k → Verdict s (ofRecord s (afterKind s (fieldEnd s 0) k h))
+unfolding afterKind takesShape ofRecord isGood
+by-kind s k H.One q e = one-judged s (fieldEnd s 0) (takesShape H.One) (at-kind s k H.One q e) k refl refl (λ k. ne-eqb (suc (suc k)) 1 (λ (z : suc (suc k) ≡ 1). omega arith)) (numberAt s (fieldEnd s 0)) refl
+by-kind s k H.Two q e = two-judged s (fieldEnd s 0) (takesShape H.Two) (at-kind s k H.Two q e) (R.Plain k) (λ x y. refl) refl refl refl (λ k. ne-eqb (suc (suc (suc k))) 2 (λ (z : suc (suc (suc k)) ≡ 2). omega arith))
+by-kind s k H.List q e = many-judged s (fieldEnd s 0) (takesShape H.List) (at-kind s k H.List q e) k refl refl (λ k. le-leb 2 (suc (suc k)) (omega arith))
+
 by-word : (s : List ℕ) (w : Keyword) → keywordOf (fieldAt s 0) ≡ w → Verdict s (ofRecord s (afterWord s (fieldEnd s 0) w))
 unfolding afterWord takes ofRecord isGood
 by-word s W.Open e = two-judged s (fieldEnd s 0) (takes W.Open) (word-well s W.Open 2 refl e) R.Open (λ x y. refl) refl refl refl (λ k. ne-eqb (suc (suc (suc k))) 2 (λ (z : suc (suc (suc k)) ≡ 2). omega arith))
-by-word s W.New e = two-judged s (fieldEnd s 0) (takes W.New) (word-well s W.New 2 refl e) R.New (λ x y. refl) refl refl refl (λ k. ne-eqb (suc (suc (suc k))) 2 (λ (z : suc (suc (suc k)) ≡ 2). omega arith))
-by-word s W.Set e = two-judged s (fieldEnd s 0) (takes W.Set) (word-well s W.Set 2 refl e) R.Set (λ x y. refl) refl refl refl (λ k. ne-eqb (suc (suc (suc k))) 2 (λ (z : suc (suc (suc k)) ≡ 2). omega arith))
-by-word s W.Get e = two-judged s (fieldEnd s 0) (takes W.Get) (word-well s W.Get 2 refl e) R.Get (λ x y. refl) refl refl refl (λ k. ne-eqb (suc (suc (suc k))) 2 (λ (z : suc (suc (suc k)) ≡ 2). omega arith))
-by-word s W.Async e = many-judged s (fieldEnd s 0) (takes W.Async) (word-well s W.Async 2 refl e) refl refl (λ k. le-leb 2 (suc (suc k)) (omega arith))
-by-word s W.End e = one-judged s (fieldEnd s 0) (takes W.End) (word-well s W.End 1 refl e) refl refl (λ k. ne-eqb (suc (suc k)) 1 (λ (z : suc (suc k) ≡ 1). omega arith)) (numberAt s (fieldEnd s 0)) refl
+by-word s (W.Step k) e = by-kind s k (shapeOf k) refl e
 by-word s (W.Other k) e = verdict-bad k (word-bad s k e)
 
 -- the record's form is right: a well-formed line, or its column

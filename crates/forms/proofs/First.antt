@@ -12,12 +12,16 @@ use lib.ListN.{length, take, drop, take-append-drop}
 use lib.Seq.{take-take, length-take-le}
 use Rattle.fields.specs.Fields.{tab, run, fieldEnd, fieldAt, runTo, endFrom}
 use Rattle.fields.proofs.FieldLaws.{firstField, run-most, run-afterField, firstField-front, firstField-rest}
-use Rattle.keywords.specs.Keywords.{On, here, later, StopsAt, textOf, keywords, keywordOf}
+use Rattle.keywords.specs.Keywords.{On, StopsAt, textOf, keywords, keywordOf}
+use Rattle.kinds.specs.Kinds.{shapeOf}
+use Rattle.kinds.specs.declared.Kind.the-variants as K
+use Rattle.kinds.specs.declared.Shape.{Shape}
+use Rattle.kinds.specs.declared.Shape.the-variants as H
 use Rattle.keywords.specs.declared.Keyword.{Keyword}
 use Rattle.keywords.specs.declared.Keyword.the-variants as W
 use Rattle.keywords.proofs.LookupLaws.{true-not-false}
-use Rattle.keywords.proofs.Theorems.{keywordOf-text, keywordOf-is, keywordOf-other}
-use Rattle.forms.specs.Forms.{takes, BadAt}
+use Rattle.keywords.proofs.Theorems.{open-on, step-on, proper, keywordOf-text, keywordOf-is, keywordOf-other}
+use Rattle.forms.specs.Forms.{takesShape, takes, BadAt}
 use Rattle.forms.proofs.Parsed.{Numbers, Parsed}
 use Rattle.forms.proofs.Place.{At, zeros, numbers-tabbed}
 
@@ -27,38 +31,36 @@ use Rattle.forms.proofs.Place.{At, zeros, numbers-tabbed}
 pub text-whole : (w : Keyword) → run (textOf w) ≡ length (textOf w)
 unfolding textOf runTo
 text-whole W.Open = refl
-text-whole W.New = refl
-text-whole W.Set = refl
-text-whole W.Get = refl
-text-whole W.Async = refl
-text-whole W.End = refl
+text-whole (W.Step K.New) = refl
+text-whole (W.Step K.Set) = refl
+text-whole (W.Step K.Get) = refl
+text-whole (W.Step K.Async) = refl
+text-whole (W.Step K.End) = refl
 text-whole (W.Other k) = refl
 
 pub in-table : (w : Keyword) (n : ℕ) → takes w n ≡ true → On w keywords
-unfolding takes keywords
-in-table W.Open n e = here
-in-table W.New n e = later here
-in-table W.Set n e = later (later here)
-in-table W.Get n e = later (later (later here))
-in-table W.Async n e = later (later (later (later here)))
-in-table W.End n e = later (later (later (later (later here))))
+unfolding takes
+in-table W.Open n e = open-on
+in-table (W.Step k) n e = step-on k
 in-table (W.Other k) n e = true-not-false (sym e)
 
 -- each word of the table takes some number of numbers
-data Each : List Keyword → Type 0 where
-  nil : Each []
-  cons : {w : Keyword} {ws : List Keyword} (n : ℕ) → takes w n ≡ true → Each ws → Each (w ∷ ws)
+unfoldable pub least : Shape → ℕ
+least H.One = 1
+least H.Two = 2
+least H.List = 2
 
-each : Each keywords
-unfolding takes keywords
-each = cons 2 refl (cons 2 refl (cons 2 refl (cons 2 refl (cons 2 refl (cons 1 refl nil)))))
-
-each-at : {w : Keyword} {ws : List Keyword} → On w ws → Each ws → (n : ℕ) × (takes w n ≡ true)
-each-at here (cons n e l) = (n, e)
-each-at (later i) (cons n e l) = each-at i l
+pub least-taken : (h : Shape) → takesShape h (least h) ≡ true
+unfolding takesShape least
+least-taken H.One = refl
+least-taken H.Two = refl
+least-taken H.List = refl
 
 all-take : (w : Keyword) → On w keywords → (n : ℕ) × (takes w n ≡ true)
-all-take w i = each-at i each
+unfolding takes
+all-take W.Open i = (2, refl)
+all-take (W.Step k) i = (least (shapeOf k), least-taken (shapeOf k))
+all-take (W.Other k) i = absurd (proper (W.Other k) i k refl)
 
 -- ---- one byte more
 

@@ -11,6 +11,7 @@ use Rattle.words.specs.Lists.{over}
 use Rattle.buffers.specs.Buffers.{fitting}
 use Rattle.words.proofs.ListLaws.{over-none}
 use Rattle.buffers.proofs.BufferLaws.{fitting-none}
+use Rattle.kinds.specs.declared.Kind.{Kind}
 use Rattle.records.specs.Records.{recordOf}
 use Rattle.records.specs.declared.Record.{Record}
 use Rattle.records.specs.declared.Record.the-variants as R
@@ -55,13 +56,13 @@ module _ (s : List ℕ) where
 
 -- ---- the list
 
-pub withList-all : (t c e n : ℕ) (s : List ℕ) → listOf (drop e s) ≡ E.All n → F.Async t c n ≡ withList t c e (listOf (drop e s))
+pub withList-all : (k : Kind) (t c e n : ℕ) (s : List ℕ) → listOf (drop e s) ≡ E.All n → F.Step k t c n ≡ withList k t c e (listOf (drop e s))
 unfolding withList
-withList-all t c e n s q = rw q
+withList-all k t c e n s q = rw q
 
-pub withList-bad : (t c e j : ℕ) (s : List ℕ) → listOf (drop e s) ≡ E.Bad j → F.Bad (e + j) ≡ withList t c e (listOf (drop e s))
+pub withList-bad : (k : Kind) (t c e j : ℕ) (s : List ℕ) → listOf (drop e s) ≡ E.Bad j → F.Bad (e + j) ≡ withList k t c e (listOf (drop e s))
 unfolding withList
-withList-bad t c e j s q = rw q
+withList-bad k t c e j s q = rw q
 
 -- ---- the column
 
@@ -69,6 +70,6 @@ withList-bad t c e j s q = rw q
 pub record-in-line : (s : List ℕ) (r : Record) → length s ≤ longestLine → recordOf s ≡ r → InLine (ofRecord s r)
 record-in-line s r h q c e = omega (arith, verdict-column c (verdict s) (ap (ofRecord s) q ∙ e) .within)
 
-pub list-in-line : (s : List ℕ) (t c e : ℕ) → length s ≤ longestLine → recordOf s ≡ R.Async t c e → InLine (withList t c e (listOf (drop e s)))
+pub list-in-line : (s : List ℕ) (k : Kind) (t c e : ℕ) → length s ≤ longestLine → recordOf s ≡ R.Listing k t c e → InLine (withList k t c e (listOf (drop e s)))
 unfolding ofRecord
-list-in-line s t c e h q = record-in-line s (R.Async t c e) h q
+list-in-line s k t c e h q = record-in-line s (R.Listing k t c e) h q

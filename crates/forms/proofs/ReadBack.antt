@@ -13,12 +13,16 @@ use Rattle.fields.specs.Fields.{tab, run, fieldEnd, fieldAt, runTo, endFrom}
 use Rattle.fields.proofs.FieldLaws.{firstField, run-append, firstField-rest}
 use Rattle.numbers.specs.Numbers.{largest, dec}
 use Rattle.numbers.proofs.PrintLaws.{numberOf-print}
+use Rattle.kinds.specs.Kinds.{shapeOf}
+use Rattle.kinds.specs.declared.Kind.{Kind}
+use Rattle.kinds.specs.declared.Shape.{Shape}
+use Rattle.kinds.specs.declared.Shape.the-variants as H
 use Rattle.keywords.specs.Keywords.{textOf, keywordOf}
 use Rattle.keywords.specs.declared.Keyword.{Keyword}
 use Rattle.keywords.specs.declared.Keyword.the-variants as W
 use Rattle.keywords.proofs.LookupLaws.{true-not-false}
 use Rattle.keywords.proofs.Theorems.{keywordOf-text}
-use Rattle.records.specs.Records.{placed, numberAt, withSecond, withFirst, pairAt, lastPair, ofPair, ofAsync, ofEnd, afterWord, recordOf}
+use Rattle.records.specs.Records.{placed, numberAt, withSecond, withFirst, pairAt, lastPair, ofPair, ofList, ofOne, afterKind, afterWord, recordOf}
 use Rattle.records.specs.declared.Numbered.the-variants as S
 use Rattle.records.specs.declared.Pair.the-variants as P
 use Rattle.records.specs.declared.Record.{Record}
@@ -26,8 +30,8 @@ use Rattle.records.specs.declared.Record.the-variants as R
 use Rattle.lists.specs.Lists.{withEntry, pastEntry, valuesFrom, listedFrom, valuesOf, listOf}
 use Rattle.lists.specs.declared.Listed.the-variants as E
 use Rattle.writers.specs.Texts.{fieldsText, one-more}
-use Rattle.forms.specs.Forms.{takes, AllSmall, Line}
-use Rattle.forms.specs.Judging.{wordIn, numbersIn, withList, ofRecord, entriesIn}
+use Rattle.forms.specs.Forms.{takesShape, takes, AllSmall, Line}
+use Rattle.forms.specs.Judging.{wordIn, numbersBy, numbersIn, withList, ofRecord, entriesIn}
 use Rattle.forms.proofs.NumberFields.{dec-whole}
 use Rattle.forms.proofs.First.{text-whole, in-table, first-field}
 
@@ -67,9 +71,9 @@ endOf e [] = e
 endOf e (n ∷ ns) = endOf (e + 1 + length (dec n)) ns
 
 module _ (s : List ℕ) where
-  one-read : (e t : ℕ) → t ≤ largest → drop e s ≡ fieldsText (t ∷ []) → ofEnd s (numberAt s e) ≡ R.End t
-  unfolding fieldsText ofEnd
-  one-read e t h q =
+  one-read : (k : Kind) (e t : ℕ) → t ≤ largest → drop e s ≡ fieldsText (t ∷ []) → ofOne k s (numberAt s e) ≡ R.Plain k t 0
+  unfolding fieldsText ofOne
+  one-read k e t h q =
       let o = over-at s (e + 1 + length (dec t)) (next-rest s e t [] h (fields-tabbed []) q) in
       rw (next-read s e t [] h (fields-tabbed []) q, le-ltb (e + 1 + length (dec t)) (length s) o)
 
@@ -158,31 +162,33 @@ module _ (s : List ℕ) (e : ℕ) (ns : List ℕ) (a : AllSmall ns) (q : drop e 
       let b = subst AllSmall p a in
       rw (p, two-read s f e x y (small-head b) (small-head (small-tail b)) (q ∙ ap fieldsText p)) (says x y)
 
-  end-says : length ns ≡ 1 → Says s (ofEnd s (numberAt s e)) W.End ns
-  unfolding ofRecord wordIn numbersIn
-  end-says l =
+  one-says : (k : Kind) → shapeOf k ≡ H.One → length ns ≡ 1 → Says s (ofOne k s (numberAt s e)) (W.Step k) ns
+  unfolding ofRecord wordIn numbersIn numbersBy
+  one-says k z l =
       let (t, p) = one-of ns l in
-      rw (p, one-read s e t (small-head (subst AllSmall p a)) (q ∙ ap fieldsText p)) (record { word = refl; numbers = refl })
+      rw (p, one-read s k e t (small-head (subst AllSmall p a)) (q ∙ ap fieldsText p)) (record { word = refl; numbers = rw z })
 
-  async-says : 2 ≤ length ns → Says s (ofAsync (pairAt s e)) W.Async ns
-  unfolding ofAsync ofRecord withList wordIn numbersIn entriesIn
-  async-says l =
+  list-says : (k : Kind) → shapeOf k ≡ H.List → 2 ≤ length ns → Says s (ofList k (pairAt s e)) (W.Step k) ns
+  unfolding ofList ofRecord withList wordIn numbersIn numbersBy entriesIn
+  list-says k z l =
       let (x, y, vs, p) = more-of ns l in
       let b = subst AllSmall p a in
       let c = small-tail (small-tail b) in
       let t = q ∙ ap fieldsText p in
       let d = pair-rest s e x y vs (small-head b) (small-head (small-tail b)) t in
       rw (p, pair-read s e x y vs (small-head b) (small-head (small-tail b)) t)
-      (record { word = rw (d, list-read vs c); numbers = rw (d, list-read vs c, entries-read vs c) })
+      (record { word = rw (d, list-read vs c); numbers = rw (d, list-read vs c, entries-read vs c, z) })
+
+  by-kind : (k : Kind) (h : Shape) → shapeOf k ≡ h → takesShape h (length ns) ≡ true → Says s (afterKind s e k h) (W.Step k) ns
+  unfolding afterKind takesShape ofRecord wordIn numbersIn numbersBy entriesIn
+  by-kind k H.One z t = one-says k z (eqb-true _ _ t)
+  by-kind k H.Two z t = two-says (W.Step k) (R.Plain k) (λ x y. record { word = refl; numbers = rw z }) (eqb-true _ _ t)
+  by-kind k H.List z t = list-says k z (leb-true _ _ t)
 
   by-word : (w : Keyword) → takes w (length ns) ≡ true → Says s (afterWord s e w) w ns
   unfolding afterWord takes ofRecord wordIn numbersIn entriesIn
   by-word W.Open t = two-says W.Open R.Open (λ x y. record { word = refl; numbers = refl }) (eqb-true _ _ t)
-  by-word W.New t = two-says W.New R.New (λ x y. record { word = refl; numbers = refl }) (eqb-true _ _ t)
-  by-word W.Set t = two-says W.Set R.Set (λ x y. record { word = refl; numbers = refl }) (eqb-true _ _ t)
-  by-word W.Get t = two-says W.Get R.Get (λ x y. record { word = refl; numbers = refl }) (eqb-true _ _ t)
-  by-word W.Async t = async-says (leb-true _ _ t)
-  by-word W.End t = end-says (eqb-true _ _ t)
+  by-word (W.Step k) t = by-kind k (shapeOf k) refl t
   by-word (W.Other k) t = true-not-false (sym t)
 
 -- THE LINE OF A WORD AND NUMBERS IS READ AS THAT WORD AND THOSE NUMBERS

@@ -15,6 +15,9 @@ use Rattle.buffers.proofs.BufferLaws.{fitting-room}
 use Rattle.numbers.specs.Numbers.{dec}
 use Rattle.numbers.proofs.NumberLaws.{numberOf-is-nonempty}
 use Rattle.numbers.proofs.PrintLaws.{numberOf-print}
+use Rattle.kinds.specs.Kinds.{shapeOf}
+use Rattle.kinds.specs.declared.Kind.{Kind}
+use Rattle.kinds.specs.declared.Kind.the-variants.{Async}
 use Rattle.keywords.specs.Keywords.{textOf}
 use Rattle.keywords.specs.declared.Keyword.{Keyword}
 use Rattle.keywords.specs.declared.Keyword.the-variants as W
@@ -30,7 +33,7 @@ use Rattle.forms.specs.declared.Form.{Form}
 use Rattle.forms.specs.declared.Form.the-variants as F
 use Rattle.writers.specs.Texts.{fieldsText, no-more, one-more}
 use Rattle.forms.specs.Forms.{longestLine, takes, AllSmall, Line, Formed, Start, BadAt, ColumnOf, too-long, goes-bad}
-use Rattle.forms.specs.Judging.{wordIn, numbersIn, countIn, withList, ofRecord, formOf, entriesIn, entriesOf, Good, InLine, Judged}
+use Rattle.forms.specs.Judging.{wordIn, numbersBy, numbersIn, countIn, withList, ofRecord, formOf, entriesIn, entriesOf, Good, InLine, Judged}
 use Rattle.forms.proofs.Parsed.{formed, bad-formed}
 use Rattle.forms.proofs.Column.{Verdict, verdict-well, verdict-bad, verdict, verdict-column}
 use Rattle.forms.proofs.ReadBack.{line-read}
@@ -151,22 +154,19 @@ one-column s {c} {d} p q = let z : F.Bad c ≡ F.Bad d = sym (column-found s p) 
 
 -- ---- the list
 
-list-count : (s : List ℕ) (t c e : ℕ) (r : Listed) → listOf (drop e s) ≡ r → Good (withList t c e r) → countIn (withList t c e r) ≡ length (valuesOf (drop e s))
+list-count : (s : List ℕ) (k : Kind) (t c e : ℕ) (r : Listed) → listOf (drop e s) ≡ r → Good (withList k t c e r) → countIn (withList k t c e r) ≡ length (valuesOf (drop e s))
 unfolding withList countIn
-list-count s t c e (E.All n) q g = listOf-count (drop e s) n q
-list-count s t c e (E.Bad j) q g = absurd (g (e + j) refl)
+list-count s k t c e (E.All n) q g = listOf-count (drop e s) n q
+list-count s k t c e (E.Bad j) q g = absurd (g (e + j) refl)
 
 record-count : (s : List ℕ) (r : Record) → Good (ofRecord s r) → countIn (ofRecord s r) ≡ length (entriesIn s r)
 unfolding ofRecord countIn entriesIn
 record-count s (R.Open a b) g = refl
-record-count s (R.New t p) g = refl
-record-count s (R.Set t p) g = refl
-record-count s (R.Get t p) g = refl
-record-count s (R.Async t c e) g = list-count s t c e (listOf (drop e s)) refl g
-record-count s (R.End t) g = refl
+record-count s (R.Plain k t p) g = refl
+record-count s (R.Listing k t c e) g = list-count s k t c e (listOf (drop e s)) refl g
 record-count s (R.Bad c) g = absurd (g c refl)
 
--- an async's form says how many entries there are
+-- a step's form says how many entries there are
 pub form-counts : (s : List ℕ) → Good (formOf s) → countIn (formOf s) ≡ length (entriesOf s)
 form-counts s g =
     let h = within-of s g in
@@ -175,14 +175,11 @@ form-counts s g =
 record-entries : (s : List ℕ) (r : Record) → 2 * length (entriesIn s r) ≤ length s
 unfolding entriesIn
 record-entries s (R.Open a b) = omega arith
-record-entries s (R.New t p) = omega arith
-record-entries s (R.Set t p) = omega arith
-record-entries s (R.Get t p) = omega arith
-record-entries s (R.Async t c e) = omega (arith, valuesOf-most (drop e s), length-drop e s)
-record-entries s (R.End t) = omega arith
+record-entries s (R.Plain k t p) = omega arith
+record-entries s (R.Listing k t c e) = omega (arith, valuesOf-most (drop e s), length-drop e s)
 record-entries s (R.Bad c) = omega arith
 
-entries-half : (s : List ℕ) → 2 * length (entriesOf s) ≤ longestLine
+pub entries-half : (s : List ℕ) → 2 * length (entriesOf s) ≤ longestLine
 entries-half s = go (decLt longestLine (length s))
   where
     go : Dec (longestLine < length s) → 2 * length (entriesOf s) ≤ longestLine
@@ -199,27 +196,29 @@ fields-least [] no-more = omega arith
 fields-least (n ∷ ns) (one-more h a) =
     rw length-append (omega (arith, fields-least ns a, numberOf-is-nonempty (dec n) n (numberOf-print n h)))
 
-async-length : length (textOf W.Async) ≡ 5
+async-length : length (textOf (W.Step Async)) ≡ 5
 unfolding textOf
 async-length = refl
 
-async-line : (s : List ℕ) (t c n : ℕ) (f : Form) (vs : List ℕ) → f ≡ F.Async t c n → Line (wordIn f) (numbersIn f vs) s → 9 + 2 * length vs ≤ length s
-unfolding wordIn numbersIn
+async-line : (s : List ℕ) (t c n : ℕ) (f : Form) (vs : List ℕ) → f ≡ F.Step Async t c n → Line (wordIn f) (numbersIn f vs) s → 9 + 2 * length vs ≤ length s
+unfolding wordIn numbersIn numbersBy shapeOf
 async-line s t c n f vs e l =
     let m = subst (λ (g : Form). Line (wordIn g) (numbersIn g vs) s) e l in
-    let k : length s ≡ length (textOf W.Async) + length (fieldsText (t ∷ c ∷ vs)) = ap length (m .text) ∙ length-append (textOf W.Async) (fieldsText (t ∷ c ∷ vs)) in
+    let k : length s ≡ length (textOf (W.Step Async)) + length (fieldsText (t ∷ c ∷ vs)) = ap length (m .text) ∙ length-append (textOf (W.Step Async)) (fieldsText (t ∷ c ∷ vs)) in
     omega (arith, async-length, fields-least (t ∷ c ∷ vs) (m .small))
 
-async-good : {t c n : ℕ} {f : Form} → f ≡ F.Async t c n → Good f
-async-good e d q = let z : _≡_ {A = ℕ} 0 1 = cc in omega arith
+step-good : {k : Kind} {t c n : ℕ} {f : Form} → f ≡ F.Step k t c n → Good f
+step-good e d q = let z : _≡_ {A = ℕ} 0 1 = cc in omega arith
 
--- a line has at most 1,019 entries
-pub entries-most : (s : List ℕ) (t c n : ℕ) → formOf s ≡ F.Async t c n → n ≤ 1019
+pub step-counts : (s : List ℕ) (k : Kind) (t c n : ℕ) → formOf s ≡ F.Step k t c n → n ≡ length (entriesOf s)
 unfolding countIn
+step-counts s k t c n e = sym (ap countIn e) ∙ form-counts s (step-good e)
+
+-- an async has at most 1,019 entries
+pub entries-most : (s : List ℕ) (t c n : ℕ) → formOf s ≡ F.Step Async t c n → n ≤ 1019
 entries-most s t c n e =
-    let g = async-good e in
-    let k : n ≡ length (entriesOf s) = sym (ap countIn e) ∙ form-counts s g in
-    omega (arith, within-of s g, async-line s t c n (formOf s) (entriesOf s) e (read-is-printed s g))
+    let g = step-good e in
+    omega (arith, step-counts s Async t c n e, within-of s g, async-line s t c n (formOf s) (entriesOf s) e (read-is-printed s g))
 
 -- ---- 01, "How much each contract must say": any two outcomes that the contract allows coincide
 

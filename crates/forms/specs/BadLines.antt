@@ -9,6 +9,7 @@ use mathlib.Core.List.{List, [], _∷_, _++_}
 use Rattle.fields.specs.Fields.{tab}
 use Rattle.numbers.specs.Numbers.{dec}
 use Rattle.writers.specs.Texts.{fieldsText}
+use Rattle.kinds.specs.declared.Kind.the-variants as K
 use Rattle.keywords.specs.Keywords.{textOf}
 use Rattle.keywords.specs.declared.Keyword.the-variants as W
 
@@ -30,20 +31,20 @@ abbrev pub badLines : List Bad
 badLines =
     -- "the first byte with which the line so far stops being the start of any well-formed line"
     bad x 0
-    ∷ bad (textOf W.New ++ x) 3
-    ∷ bad (textOf W.End ++ fieldsText (1 ∷ []) ++ tabAfter) 5
-    ∷ bad (textOf W.New ++ fieldsText (0 ∷ 1 ∷ []) ++ tabAfter) 7
-    ∷ bad (textOf W.New ++ fieldsText (0 ∷ []) ++ tabAfter ++ tabAfter ++ dec 1) 6
-    ∷ bad (textOf W.Async ++ fieldsText (0 ∷ 1 ∷ 2 ∷ []) ++ x) 11
+    ∷ bad (textOf (W.Step K.New) ++ x) 3
+    ∷ bad (textOf (W.Step K.End) ++ fieldsText (1 ∷ []) ++ tabAfter) 5
+    ∷ bad (textOf (W.Step K.New) ++ fieldsText (0 ∷ 1 ∷ []) ++ tabAfter) 7
+    ∷ bad (textOf (W.Step K.New) ++ fieldsText (0 ∷ []) ++ tabAfter ++ tabAfter ++ dec 1) 6
+    ∷ bad (textOf (W.Step K.Async) ++ fieldsText (0 ∷ 1 ∷ 2 ∷ []) ++ x) 11
     -- a digit that makes the number too large, or follows a 0
-    ∷ bad (textOf W.Get ++ fieldsText (0 ∷ 0 ∷ []) ++ dec 0) 7
-    ∷ bad (textOf W.Get ++ fieldsText (0 ∷ 6553 ∷ []) ++ dec 6) 10
-    ∷ bad (textOf W.Get ++ fieldsText (0 ∷ 7000 ∷ []) ++ dec 0) 10
-    ∷ bad (textOf W.Get ++ fieldsText (0 ∷ 65535 ∷ []) ++ dec 0) 11
+    ∷ bad (textOf (W.Step K.Get) ++ fieldsText (0 ∷ 0 ∷ []) ++ dec 0) 7
+    ∷ bad (textOf (W.Step K.Get) ++ fieldsText (0 ∷ 6553 ∷ []) ++ dec 6) 10
+    ∷ bad (textOf (W.Step K.Get) ++ fieldsText (0 ∷ 7000 ∷ []) ++ dec 0) 10
+    ∷ bad (textOf (W.Step K.Get) ++ fieldsText (0 ∷ 65535 ∷ []) ++ dec 0) 11
     -- "or the line's length if only the end came too early"
     ∷ bad [] 0
     ∷ bad (textOf W.Open) 4
-    ∷ bad (textOf W.New ++ fieldsText (0 ∷ [])) 5
-    ∷ bad (textOf W.New ++ fieldsText (0 ∷ []) ++ tabAfter) 6
-    ∷ bad (textOf W.Async ++ fieldsText (0 ∷ 1 ∷ []) ++ tabAfter) 10
+    ∷ bad (textOf (W.Step K.New) ++ fieldsText (0 ∷ [])) 5
+    ∷ bad (textOf (W.Step K.New) ++ fieldsText (0 ∷ []) ++ tabAfter) 6
+    ∷ bad (textOf (W.Step K.Async) ++ fieldsText (0 ∷ 1 ∷ []) ++ tabAfter) 10
     ∷ []

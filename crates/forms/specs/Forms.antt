@@ -19,6 +19,9 @@ use lib.ListN.{length, take}
 use lib.Dec.{eqb, leb}
 use Rattle.numbers.specs.Numbers.{largest}
 use Rattle.writers.specs.Texts.{fieldsText, Every}
+use Rattle.kinds.specs.Kinds.{shapeOf}
+use Rattle.kinds.specs.declared.Shape.{Shape}
+use Rattle.kinds.specs.declared.Shape.the-variants as H
 use Rattle.keywords.specs.Keywords.{textOf}
 use Rattle.keywords.specs.declared.Keyword.{Keyword}
 use Rattle.keywords.specs.declared.Keyword.the-variants as W
@@ -27,14 +30,15 @@ use Rattle.keywords.specs.declared.Keyword.the-variants as W
 abbrev pub longestLine : ℕ
 longestLine = 2048
 
--- A NEW FORM is one line here, and its word in `keywords`. "p.." may stand for no number at all.
+-- "p.." may stand for no number at all
+unfoldable pub takesShape : Shape → ℕ → Bool
+takesShape H.One n = eqb n 1
+takesShape H.Two n = eqb n 2
+takesShape H.List n = leb 2 n
+
 unfoldable pub takes : Keyword → ℕ → Bool
 takes W.Open n = eqb n 2
-takes W.New n = eqb n 2
-takes W.Set n = eqb n 2
-takes W.Get n = eqb n 2
-takes W.Async n = leb 2 n
-takes W.End n = eqb n 1
+takes (W.Step k) n = takesShape (shapeOf k) n
 takes (W.Other k) n = false
 
 -- "A number .. is at most 65535"

@@ -2,7 +2,7 @@
 -- 2,048 bytes", and 02, request 1, "A line that is too long gives column 2,048".
 --
 --   wordIn f           the word of the form f, and
---   numbersIn f vs     its numbers; vs are the entries of an async's list
+--   numbersIn f vs     its numbers; vs are the entries of its list
 --   countIn f          how many entries it says its list has
 --   formOf s           the form of the line s, or `Bad` with the column where it goes bad
 --   entriesOf s        the entries of the line's list
@@ -19,6 +19,10 @@ use lib.ListN.{length, drop}
 use lib.Dec.{ltb}
 use Rattle.words.specs.Lists.{over}
 use Rattle.buffers.specs.Buffers.{fitting}
+use Rattle.kinds.specs.Kinds.{shapeOf}
+use Rattle.kinds.specs.declared.Kind.{Kind}
+use Rattle.kinds.specs.declared.Shape.{Shape}
+use Rattle.kinds.specs.declared.Shape.the-variants as H
 use Rattle.keywords.specs.declared.Keyword.{Keyword}
 use Rattle.keywords.specs.declared.Keyword.the-variants as W
 use Rattle.records.specs.Records.{recordOf}
@@ -36,59 +40,46 @@ use Rattle.forms.specs.Forms.{longestLine}
 -- a bad line has no word
 unfoldable pub wordIn : Form → Keyword
 wordIn (F.Open a b) = W.Open
-wordIn (F.New t p) = W.New
-wordIn (F.Set t p) = W.Set
-wordIn (F.Get t p) = W.Get
-wordIn (F.Async t c n) = W.Async
-wordIn (F.End t) = W.End
+wordIn (F.Step k a b n) = W.Step k
 wordIn (F.Bad c) = W.Other c
+
+-- of a step, by what its kind takes
+unfoldable pub numbersBy : Shape → ℕ → ℕ → List ℕ → List ℕ
+numbersBy H.One a b vs = a ∷ []
+numbersBy H.Two a b vs = a ∷ b ∷ []
+numbersBy H.List a b vs = a ∷ b ∷ vs
 
 unfoldable pub numbersIn : Form → List ℕ → List ℕ
 numbersIn (F.Open a b) vs = a ∷ b ∷ []
-numbersIn (F.New t p) vs = t ∷ p ∷ []
-numbersIn (F.Set t p) vs = t ∷ p ∷ []
-numbersIn (F.Get t p) vs = t ∷ p ∷ []
-numbersIn (F.Async t c n) vs = t ∷ c ∷ vs
-numbersIn (F.End t) vs = t ∷ []
+numbersIn (F.Step k a b n) vs = numbersBy (shapeOf k) a b vs
 numbersIn (F.Bad c) vs = []
 
 unfoldable pub countIn : Form → ℕ
 countIn (F.Open a b) = 0
-countIn (F.New t p) = 0
-countIn (F.Set t p) = 0
-countIn (F.Get t p) = 0
-countIn (F.Async t c n) = n
-countIn (F.End t) = 0
+countIn (F.Step k a b n) = n
 countIn (F.Bad c) = 0
 
 -- ---- what is answered
 
--- an async whose list starts at e: columns of the list become columns of the line
-unfoldable pub withList : ℕ → ℕ → ℕ → Listed → Form
-withList t c e (E.All n) = F.Async t c n
-withList t c e (E.Bad j) = F.Bad (e + j)
+-- a step whose list starts at e: columns of the list become columns of the line
+unfoldable pub withList : Kind → ℕ → ℕ → ℕ → Listed → Form
+withList k a b e (E.All n) = F.Step k a b n
+withList k a b e (E.Bad j) = F.Bad (e + j)
 
 unfoldable pub ofRecord : List ℕ → Record → Form
 ofRecord s (R.Open a b) = F.Open a b
-ofRecord s (R.New t p) = F.New t p
-ofRecord s (R.Set t p) = F.Set t p
-ofRecord s (R.Get t p) = F.Get t p
-ofRecord s (R.Async t c e) = withList t c e (listOf (drop e s))
-ofRecord s (R.End t) = F.End t
+ofRecord s (R.Plain k a b) = F.Step k a b 0
+ofRecord s (R.Listing k a b e) = withList k a b e (listOf (drop e s))
 ofRecord s (R.Bad c) = F.Bad c
 
 -- "A line that is too long gives column 2,048", whatever it holds
 unfoldable pub formOf : List ℕ → Form
 formOf s = cond (ltb longestLine (length s)) (F.Bad longestLine) (ofRecord s (recordOf s))
 
--- only an async has a list
 unfoldable pub entriesIn : List ℕ → Record → List ℕ
 entriesIn s (R.Open a b) = []
-entriesIn s (R.New t p) = []
-entriesIn s (R.Set t p) = []
-entriesIn s (R.Get t p) = []
-entriesIn s (R.Async t c e) = valuesOf (drop e s)
-entriesIn s (R.End t) = []
+entriesIn s (R.Plain k a b) = []
+entriesIn s (R.Listing k a b e) = valuesOf (drop e s)
 entriesIn s (R.Bad c) = []
 
 unfoldable pub entriesOf : List ℕ → List ℕ

@@ -5,18 +5,15 @@ ghost use Rattle.words.specs.Lists.{over};
 ghost use Rattle.buffers.specs.Buffers.{fitting};
 ghost use Rattle.lists.specs.Lists.{listOf, valuesOf};
 ghost use Rattle.forms.specs.Judging.{InLine, Judged, withList};
+use kinds::Kind;
 use lists::Listed;
 use records::Record;
 
-// The form of a line. `Async` holds the acting task, the child, and how many entries its list has: they stand in the lent words.
-// `Bad` holds the column, which fits a word: it is at most `LONGEST`.
+// The form of a line. `Step` holds the kind, its numbers, and how many entries its list has: they stand in the lent words. A step of one number has 0 for the other, and a
+// step without a list 0 entries. `Bad` holds the column, which fits a word: it is at most `LONGEST`.
 pub enum Form {
     Open(u16, u16),
-    New(u16, u16),
-    Set(u16, u16),
-    Get(u16, u16),
-    Async(u16, u16, usize),
-    End(u16),
+    Step(Kind, u16, u16, usize),
     Bad(u16),
 }
 
@@ -25,19 +22,19 @@ impl Form {
     pub const LONGEST: usize = 2048;
 }
 
-// An async whose list starts at `at`.
-fn with_list(line: &[u8], t: u16, c: u16, at: usize, list: &mut [u16]) -> Form
-    requires { ⌜ InLine (withList t c at (listOf (drop at (now line)))) ⌝ }
-    ensures { λ r. ⌜ r ≡ withList t c at (listOf (drop at (now (line .entry)))) ⌝ }
+// A step whose list starts at `at`.
+fn with_list(line: &[u8], kind: Kind, t: u16, c: u16, at: usize, list: &mut [u16]) -> Form
+    requires { ⌜ InLine (withList kind t c at (listOf (drop at (now line)))) ⌝ }
+    ensures { λ r. ⌜ r ≡ withList kind t c at (listOf (drop at (now (line .entry)))) ⌝ }
     ensures { λ r. ⌜ now (list .exit) ≡ over (fitting (valuesOf (drop at (now (line .entry)))) (now (list .entry))) (now (list .entry)) ⌝ }
 {
     match lists::list_after(line, at, list) {
-        Listed::All(n) => Form::Async(t, c, n),
+        Listed::All(n) => Form::Step(kind, t, c, n),
         Listed::Bad(j) => Form::Bad((at + j) as u16),
     }
 }
 
-// The form of the line; the entries of an async's list are written into the lent words, of which 1,024 are enough for any line.
+// The form of the line; the entries of its list are written into the lent words, of which 1,024 are enough for any line.
 pub fn judge(line: &[u8], list: &mut [u16]) -> Form
     ensures { λ r. ⌜ Judged (now (line .entry)) (now (list .entry)) (now (list .exit)) r ⌝ }
 {
@@ -46,11 +43,8 @@ pub fn judge(line: &[u8], list: &mut [u16]) -> Form
     }
     match records::record_of(line) {
         Record::Open(a, b) => Form::Open(a, b),
-        Record::New(t, p) => Form::New(t, p),
-        Record::Set(t, p) => Form::Set(t, p),
-        Record::Get(t, p) => Form::Get(t, p),
-        Record::Async(t, c, at) => with_list(line, t, c, at, list),
-        Record::End(t) => Form::End(t),
+        Record::Plain(kind, t, p) => Form::Step(kind, t, p, 0),
+        Record::Listing(kind, t, c, at) => with_list(line, kind, t, c, at, list),
         Record::Bad(c) => Form::Bad(c as u16),
     }
 }

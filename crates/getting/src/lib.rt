@@ -16,11 +16,11 @@ ghost use mathlib.Core.Path.{_≡_};
 ghost use mathlib.Core.Bool.{true};
 ghost use Prim.Native.Nat.{_*_, _≤_, _<_};
 ghost use lib.ListN.{length, set};
-ghost use Rattle.words.specs.Words.{small, Form, inBounds, waitsOn};
-ghost use Rattle.rules.specs.Tables.{tables as tablesOf, ownerOf, promiseAt};
+ghost use Rattle.words.specs.Words.{small, Form, waitsOn};
+ghost use Rattle.rules.specs.Tables.{tables as tablesOf, inBounds};
 ghost use Rattle.rules.specs.Refusals.{first};
-ghost use Rattle.rules.specs.Steps.{step-get, walk, followed, got, rows, raw, step};
-ghost use Rattle.rules.specs.Contracts.{Gives};
+ghost use Rattle.rules.specs.Steps.{step-get, askedOf, effect, rows};
+ghost use Rattle.rules.specs.Contracts.{Gives, Takes, TakesRaw};
 
 // Refusals 3, 4, 5, 6 and 8.
 fn refusal(tasks: &[u16], promises: &[u16], t: u16, p: u16) -> u16
@@ -38,9 +38,9 @@ fn wait_on(tasks: &mut [u16], t: u16, p: u16)
 }
 
 // Follows owners from `p`, which is not closed.
-fn get_owned(tasks: &mut [u16], promises: &mut [u16], report: &mut [u16], t: u16, p: u16) -> Answer
+fn get_owned(tasks: &mut [u16], promises: &[u16], report: &mut [u16], t: u16, p: u16) -> Answer
     requires { ⌜ (length (now tasks) ≤ small .mostTasks) × (2 * length (now tasks) ≤ length (now report)) × (p < small .mostPromises) ⌝ }
-    ensures { λ r. ⌜ Gives (followed (tablesOf (now (tasks .entry)) (now (promises .entry))) t p (walk (length (now (tasks .entry))) (tablesOf (now (tasks .entry)) (now (promises .entry))) t (ownerOf (tablesOf (now (tasks .entry)) (now (promises .entry))) p) 1)) (now (report .entry)) r (now (tasks .exit)) (now (promises .exit)) (now (report .exit)) ⌝ }
+    ensures { λ r. ⌜ Gives (askedOf (tablesOf (now (tasks .entry)) (now (promises .entry))) t p) (now (report .entry)) r (tablesOf (now (tasks .exit)) (now (promises .entry))) (now (report .exit)) ⌝ }
 {
     let from = number_at(promises, PromiseWord::FIRST_OWNED, p);
     let trail = follow(tasks, promises, t as usize, from as usize);
@@ -64,9 +64,9 @@ fn get_owned(tasks: &mut [u16], promises: &mut [u16], report: &mut [u16], t: u16
 }
 
 // A promise that was made: a closed one answers at once.
-fn get_made(tasks: &mut [u16], promises: &mut [u16], report: &mut [u16], t: u16, p: u16) -> Answer
+fn get_made(tasks: &mut [u16], promises: &[u16], report: &mut [u16], t: u16, p: u16) -> Answer
     requires { ⌜ (length (now tasks) ≤ small .mostTasks) × (2 * length (now tasks) ≤ length (now report)) × (p < small .mostPromises) ⌝ }
-    ensures { λ r. ⌜ Gives (got (small .base) (tablesOf (now (tasks .entry)) (now (promises .entry))) t p (promiseAt (tablesOf (now (tasks .entry)) (now (promises .entry))) p)) (now (report .entry)) r (now (tasks .exit)) (now (promises .exit)) (now (report .exit)) ⌝ }
+    ensures { λ r. ⌜ Gives (effect small (tablesOf (now (tasks .entry)) (now (promises .entry))) (step-get t p)) (now (report .entry)) r (tablesOf (now (tasks .exit)) (now (promises .entry))) (now (report .exit)) ⌝ }
 {
     let w = at(promises, p as usize);
     if w == PromiseWord::SET {
@@ -79,15 +79,9 @@ fn get_made(tasks: &mut [u16], promises: &mut [u16], report: &mut [u16], t: u16,
 }
 
 // The step without refusals 1 and 2, for a caller that has tested the bounds and the tables.
-pub fn raw_get(
-    tasks: &mut [u16],
-    promises: &mut [u16],
-    report: &mut [u16],
-    t: u16,
-    p: u16,
-) -> Answer
-    requires { ⌜ inBounds small (length (now tasks)) (length (now promises)) (length (now report)) ≡ true ⌝ }
-    ensures { λ r. ⌜ Gives (raw small (tablesOf (now (tasks .entry)) (now (promises .entry))) (step-get t p)) (now (report .entry)) r (now (tasks .exit)) (now (promises .exit)) (now (report .exit)) ⌝ }
+pub fn raw_get(tasks: &mut [u16], promises: &[u16], report: &mut [u16], t: u16, p: u16) -> Answer
+    requires { ⌜ inBounds small (length (now report)) (tablesOf (now tasks) (now promises)) ≡ true ⌝ }
+    ensures { λ r. ⌜ TakesRaw small (step-get t p) (tablesOf (now (tasks .entry)) (now (promises .entry))) (now (report .entry)) r (tablesOf (now (tasks .exit)) (now (promises .entry))) (now (report .exit)) ⌝ }
 {
     let n = refusal(tasks, promises, t, p);
     if n != 0 {
@@ -104,7 +98,7 @@ pub fn step_get(
     t: u16,
     p: u16,
 ) -> Answer
-    ensures { λ r. ⌜ Gives (step small (length (now (report .entry))) (tablesOf (now (tasks .entry)) (now (promises .entry))) (step-get t p)) (now (report .entry)) r (now (tasks .exit)) (now (promises .exit)) (now (report .exit)) ⌝ }
+    ensures { λ r. ⌜ Takes small (step-get t p) (tablesOf (now (tasks .entry)) (now (promises .entry))) (now (report .entry)) r (tablesOf (now (tasks .exit)) (now (promises .exit))) (now (report .exit)) ⌝ }
 {
     let n = table_refusal(tasks, promises, report.len());
     if n != 0 {

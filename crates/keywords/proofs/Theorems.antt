@@ -10,6 +10,8 @@ use native.Mathlib.Omega.{arith}
 use borrow.Author.Tests.{eq-eqb, ltb-true}
 use lib.Dec.{ltb}
 use lib.ListN.{length, take}
+use Rattle.kinds.specs.declared.Kind.{Kind}
+use Rattle.kinds.specs.declared.Kind.the-variants.{New, Set, Get, Async, End}
 use Rattle.keywords.specs.declared.Keyword.{Keyword}
 use Rattle.keywords.specs.declared.Keyword.the-variants as W
 use Rattle.keywords.specs.Keywords.{On, here, later, StopsAt, same, common, textOf, keywords, longest, lookup, keywordOf}
@@ -64,9 +66,18 @@ common-least (suc n) (x ∷ a) (y ∷ b) h e =
     let q : take n a ≡ take n b = cc in
     rw (eq-eqb x y p) (omega (arith, common-least n a b (omega arith) q))
 
-open-on : On W.Open keywords
+pub open-on : On W.Open keywords
 unfolding keywords
 open-on = here
+
+-- each kind of step has its word in the table
+pub step-on : (k : Kind) → On (W.Step k) keywords
+unfolding keywords
+step-on New = later here
+step-on Set = later (later here)
+step-on Get = later (later (later here))
+step-on Async = later (later (later (later here)))
+step-on End = later (later (later (later (later here))))
 
 pub keywordOf-other : (s : List ℕ) (k : ℕ) → keywordOf s ≡ W.Other k → StopsAt s k
 unfolding keywordOf

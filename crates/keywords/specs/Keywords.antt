@@ -17,20 +17,21 @@ use mathlib.Core.Path.{_≡_}
 use lib.Dec.{eqb, ltb}
 use lib.ListN.{length, take}
 use Rattle.keywords.specs.declared.Keyword.{Keyword}
-use Rattle.keywords.specs.declared.Keyword.the-variants.{Open, New, Set, Get, Async, End, Other}
+use Rattle.keywords.specs.declared.Keyword.the-variants.{Open, Step, Other}
+use Rattle.kinds.specs.declared.Kind.the-variants.{New, Set, Get, Async, End}
 
 -- A NEW WORD is one line here, and its place in `keywords`.
 unfoldable pub textOf : Keyword → List ℕ
 textOf Open = 111 ∷ 112 ∷ 101 ∷ 110 ∷ []
-textOf New = 110 ∷ 101 ∷ 119 ∷ []
-textOf Set = 115 ∷ 101 ∷ 116 ∷ []
-textOf Get = 103 ∷ 101 ∷ 116 ∷ []
-textOf Async = 97 ∷ 115 ∷ 121 ∷ 110 ∷ 99 ∷ []
-textOf End = 101 ∷ 110 ∷ 100 ∷ []
+textOf (Step New) = 110 ∷ 101 ∷ 119 ∷ []
+textOf (Step Set) = 115 ∷ 101 ∷ 116 ∷ []
+textOf (Step Get) = 103 ∷ 101 ∷ 116 ∷ []
+textOf (Step Async) = 97 ∷ 115 ∷ 121 ∷ 110 ∷ 99 ∷ []
+textOf (Step End) = 101 ∷ 110 ∷ 100 ∷ []
 textOf (Other k) = []
 
 unfoldable pub keywords : List Keyword
-keywords = Open ∷ New ∷ Set ∷ Get ∷ Async ∷ End ∷ []
+keywords = Open ∷ Step New ∷ Step Set ∷ Step Get ∷ Step Async ∷ Step End ∷ []
 
 unfoldable pub same : List ℕ → List ℕ → Bool
 same [] [] = true

@@ -1,17 +1,14 @@
 // The words that start a line.
+use kinds::Kind;
 ghost use mathlib.Core.Path.{_≡_};
 ghost use Rattle.keywords.specs.Keywords.{keywordOf, larger, longest, keywords};
 ghost use Rattle.keywords.specs.Keywords.{common as commonOf};
 ghost use Rattle.keywords.specs.Keywords.{same as sameOf};
 
-// The six words; or none of them, and then how many bytes of the field begin one.
+// The words: `open`, and that of each kind of step; or none of them, and then how many bytes of the field begin one.
 pub enum Keyword {
     Open,
-    New,
-    Set,
-    Get,
-    Async,
-    End,
+    Step(Kind),
     Other(usize),
 }
 
@@ -76,19 +73,19 @@ pub fn keyword_of(field: &[u8]) -> Keyword
         return Keyword::Open;
     }
     if same(field, b"new") {
-        return Keyword::New;
+        return Keyword::Step(Kind::New);
     }
     if same(field, b"set") {
-        return Keyword::Set;
+        return Keyword::Step(Kind::Set);
     }
     if same(field, b"get") {
-        return Keyword::Get;
+        return Keyword::Step(Kind::Get);
     }
     if same(field, b"async") {
-        return Keyword::Async;
+        return Keyword::Step(Kind::Async);
     }
     if same(field, b"end") {
-        return Keyword::End;
+        return Keyword::Step(Kind::End);
     }
     Keyword::Other(furthest(field))
 }

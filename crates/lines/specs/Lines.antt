@@ -1,7 +1,7 @@
 -- The line entry. Paper: 01, "Lines".
 --
---   lentWell n session T P n′ l  the line number, the session value and the lengths of what is lent are as they must be
---   Entry, entryOf ..            the number, the session value, both tables, the report, the answer line and its length after a line
+--   lentWell n session s n′ l    the line number, the session value and the lengths of what is lent are as they must be
+--   Entry, entryOf ..            the number, the session value, the tables, the report, the answer line and its length after a line
 --   heldLine x n                 the line that a buffer x gathered, of which n bytes were counted; replyOf x n is its entry
 --   Enters ..                    a call answered and left these
 -- Assumes nothing.
@@ -13,6 +13,7 @@ use lib.Dec.{eqb, leb, ltb}
 use lib.ListN.{length, take, replicate}
 use Rattle.words.specs.Words.{lastLine}
 use Rattle.words.specs.Lists.{over}
+use Rattle.rules.specs.Tables.{Tables}
 use Rattle.forms.specs.Forms.{longestLine}
 use Rattle.forms.specs.Judging.{formOf, entriesOf}
 use Rattle.answers.specs.AnswerText.{answerText, longestAnswer}
@@ -21,54 +22,51 @@ use Rattle.sessions.specs.Sessions.{inSession, Deed, deedOf}
 use Rattle.lines.specs.declared.Entered.{Entered}
 
 -- "a line number (1 to 999999), a session value .., tables of exactly 64 and 256 words, a report of exactly 384 words and an answer line of at least 2,048 bytes"
-unfoldable pub lentWell : ℕ → Session → ℕ → ℕ → ℕ → ℕ → Bool
-lentWell n session tasks promises report out =
-    (leb 1 n && leb n lastLine) && inSession session && (eqb tasks 64 && eqb promises 256) && (eqb report 384 && leb longestAnswer out)
+unfoldable pub lentWell : ℕ → Session → Tables → ℕ → ℕ → Bool
+lentWell n session st report out =
+    (leb 1 n && leb n lastLine) && inSession session && (eqb (length (st .tasks)) 64 && eqb (length (st .promises)) 256) && (eqb report 384 && leb longestAnswer out)
 
 -- ---- the entry
 
 pub record Entry : Type 0 where
   pub number : ℕ
   pub session : Session
-  pub tasks : List ℕ
-  pub promises : List ℕ
+  pub after : Tables
   pub report : List ℕ
   pub out : List ℕ
   pub bytes : ℕ
 
 -- "Anything else in these gives refusal 1 by number alone, nothing written and the session value unchanged."
-abbrev pub notEntered : Session → List ℕ → List ℕ → List ℕ → List ℕ → Entry
-notEntered session ts ps rs out = record { number = 1; session = session; tasks = ts; promises = ps; report = rs; out = out; bytes = 0 }
+abbrev pub notEntered : Session → Tables → List ℕ → List ℕ → Entry
+notEntered session st rs out = record { number = 1; session = session; after = st; report = rs; out = out; bytes = 0 }
 
 -- "Otherwise one answer line is made .. bytes after its LF stay."
 abbrev pub entered : ℕ → List ℕ → List ℕ → Deed → Entry
 entered n rs out d = record {
   number = 0;
   session = d .session;
-  tasks = d .tasks;
-  promises = d .promises;
+  after = d .after;
   report = over (d .words) rs;
   out = over (answerText n (d .answer) (over (d .words) rs)) out;
   bytes = length (answerText n (d .answer) (over (d .words) rs));
 }
 
-unfoldable pub entryOf : List ℕ → ℕ → Session → List ℕ → List ℕ → List ℕ → List ℕ → Entry
-entryOf line n session ts ps rs out =
-    cond (lentWell n session (length ts) (length ps) (length rs) (length out)) (entered n rs out (deedOf (formOf line) (entriesOf line) session ts ps (length rs))) (notEntered session ts ps rs out)
+unfoldable pub entryOf : List ℕ → ℕ → Session → Tables → List ℕ → List ℕ → Entry
+entryOf line n session st rs out =
+    cond (lentWell n session st (length rs) (length out)) (entered n rs out (deedOf (formOf line) (entriesOf line) session st (length rs))) (notEntered session st rs out)
 
 -- A line that a buffer x gathered, of which n bytes were counted. Of one that the buffer has no room for any line that is too long will do, for all of them have one
 -- answer: "passes over the rest of a longer line (one refusal 14)".
 unfoldable pub heldLine : List ℕ → ℕ → List ℕ
 heldLine x n = cond (ltb (length x) n) (replicate (suc longestLine) 0) (take n x)
 
-abbrev pub replyOf : List ℕ → ℕ → ℕ → Session → List ℕ → List ℕ → List ℕ → List ℕ → Entry
+abbrev pub replyOf : List ℕ → ℕ → ℕ → Session → Tables → List ℕ → List ℕ → Entry
 replyOf x n = entryOf (heldLine x n)
 
-pub record Enters (e : Entry) (r : Entered) (ts ps rs out : List ℕ) : Type 0 where
+pub record Enters (e : Entry) (r : Entered) (st : Tables) (rs out : List ℕ) : Type 0 where
   pub number : r .number ≡ e .number
   pub session : r .session ≡ e .session
   pub bytes : r .bytes ≡ e .bytes
-  pub tasks : ts ≡ e .tasks
-  pub promises : ps ≡ e .promises
+  pub after : st ≡ e .after
   pub report : rs ≡ e .report
   pub answer : out ≡ e .out

@@ -10,6 +10,7 @@ ghost use mathlib.Core.Path.{_≡_};
 ghost use mathlib.Core.Bool.{true};
 ghost use Prim.Native.Nat.{_≤_};
 ghost use lib.ListN.{length};
+ghost use Rattle.rules.specs.Tables.{tables as tablesOf};
 ghost use Rattle.forms.specs.Judging.{formOf, entriesOf, Judged};
 ghost use Rattle.sessions.specs.Sessions.{deedOf};
 ghost use Rattle.lines.specs.Lines.{lentWell, entered, heldLine, entryOf, replyOf, Enters};
@@ -26,15 +27,15 @@ pub struct Entered {
 fn lent_well(
     number: u32,
     session: Session,
-    tasks: usize,
-    promises: usize,
+    tasks: &[u16],
+    promises: &[u16],
     report: usize,
     answer: usize,
 ) -> bool
-    ensures { λ r. ⌜ r ≡ lentWell number session tasks promises report answer ⌝ }
+    ensures { λ r. ⌜ r ≡ lentWell number session (tablesOf (now (tasks .entry)) (now (promises .entry))) report answer ⌝ }
 {
     let numbered = (1 <= number) & (number <= Limit::LINES);
-    let tables = (tasks == Limit::TASKS) & (promises == Limit::PROMISES);
+    let tables = (tasks.len() == Limit::TASKS) & (promises.len() == Limit::PROMISES);
     let room = (report == Limit::REPORT) & (Limit::ANSWER <= answer);
     numbered & in_session(session) & tables & room
 }
@@ -61,8 +62,8 @@ fn answer_line(
     report: &mut [u16],
     answer: &mut [u8],
 ) -> Entered
-    requires { ⌜ (lentWell number session (length (now tasks)) (length (now promises)) (length (now report)) (length (now answer)) ≡ true) × (1024 ≤ length (now list)) ⌝ }
-    ensures { λ r. ⌜ Enters (entered number (now (report .entry)) (now (answer .entry)) (deedOf (formOf (heldLine (now (line .entry)) have)) (entriesOf (heldLine (now (line .entry)) have)) session (now (tasks .entry)) (now (promises .entry)) (length (now (report .entry))))) r (now (tasks .exit)) (now (promises .exit)) (now (report .exit)) (now (answer .exit)) ⌝ }
+    requires { ⌜ (lentWell number session (tablesOf (now tasks) (now promises)) (length (now report)) (length (now answer)) ≡ true) × (1024 ≤ length (now list)) ⌝ }
+    ensures { λ r. ⌜ Enters (entered number (now (report .entry)) (now (answer .entry)) (deedOf (formOf (heldLine (now (line .entry)) have)) (entriesOf (heldLine (now (line .entry)) have)) session (tablesOf (now (tasks .entry)) (now (promises .entry))) (length (now (report .entry))))) r (tablesOf (now (tasks .exit)) (now (promises .exit))) (now (report .exit)) (now (answer .exit)) ⌝ }
 {
     let form = judge_held(line, have, list);
     let done = act(form, list, session, tasks, promises, report);
@@ -87,16 +88,9 @@ pub fn reply(
     report: &mut [u16],
     answer: &mut [u8],
 ) -> Entered
-    ensures { λ r. ⌜ Enters (replyOf (now (line .entry)) have number session (now (tasks .entry)) (now (promises .entry)) (now (report .entry)) (now (answer .entry))) r (now (tasks .exit)) (now (promises .exit)) (now (report .exit)) (now (answer .exit)) ⌝ }
+    ensures { λ r. ⌜ Enters (replyOf (now (line .entry)) have number session (tablesOf (now (tasks .entry)) (now (promises .entry))) (now (report .entry)) (now (answer .entry))) r (tablesOf (now (tasks .exit)) (now (promises .exit))) (now (report .exit)) (now (answer .exit)) ⌝ }
 {
-    if lent_well(
-        number,
-        session,
-        tasks.len(),
-        promises.len(),
-        report.len(),
-        answer.len(),
-    ) {
+    if lent_well(number, session, tasks, promises, report.len(), answer.len()) {
         // a line of 2,048 bytes has at most 1,019 entries in its list
         let mut list = [0; 1024];
         return answer_line(
@@ -128,7 +122,7 @@ pub fn enter(
     report: &mut [u16],
     answer: &mut [u8],
 ) -> Entered
-    ensures { λ r. ⌜ Enters (entryOf (now (line .entry)) number session (now (tasks .entry)) (now (promises .entry)) (now (report .entry)) (now (answer .entry))) r (now (tasks .exit)) (now (promises .exit)) (now (report .exit)) (now (answer .exit)) ⌝ }
+    ensures { λ r. ⌜ Enters (entryOf (now (line .entry)) number session (tablesOf (now (tasks .entry)) (now (promises .entry))) (now (report .entry)) (now (answer .entry))) r (tablesOf (now (tasks .exit)) (now (promises .exit))) (now (report .exit)) (now (answer .exit)) ⌝ }
 {
     reply(
         line,

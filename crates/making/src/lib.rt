@@ -1,12 +1,11 @@
 // The step new: a promise that was never made becomes owned by the acting task.
 ghost use mathlib.Core.Path.{_≡_};
 ghost use mathlib.Core.Bool.{true};
-ghost use lib.ListN.{length};
-ghost use Rattle.words.specs.Words.{small, inBounds};
-ghost use Rattle.rules.specs.Tables.{tables as tablesOf};
+ghost use Rattle.words.specs.Words.{small};
+ghost use Rattle.rules.specs.Tables.{tables as tablesOf, sizesFit};
 ghost use Rattle.rules.specs.Refusals.{first};
-ghost use Rattle.rules.specs.Steps.{step-new, rows, raw, step};
-ghost use Rattle.rules.specs.Contracts.{Gives};
+ghost use Rattle.rules.specs.Steps.{step-new, rows};
+ghost use Rattle.rules.specs.Contracts.{Takes, TakesQuietly};
 use guards::actor_refusal;
 use guards::new_refusal as promise_refusal;
 use rules::Answer;
@@ -25,15 +24,9 @@ fn refusal(tasks: &[u16], promises: &[u16], t: u16, p: u16) -> u16
 }
 
 // The step without refusals 1 and 2, for a caller that has tested the bounds and the tables.
-pub fn raw_new(
-    tasks: &mut [u16],
-    promises: &mut [u16],
-    report: &mut [u16],
-    t: u16,
-    p: u16,
-) -> Answer
-    requires { ⌜ inBounds small (length (now tasks)) (length (now promises)) (length (now report)) ≡ true ⌝ }
-    ensures { λ r. ⌜ Gives (raw small (tablesOf (now (tasks .entry)) (now (promises .entry))) (step-new t p)) (now (report .entry)) r (now (tasks .exit)) (now (promises .exit)) (now (report .exit)) ⌝ }
+pub fn raw_new(tasks: &[u16], promises: &mut [u16], t: u16, p: u16) -> Answer
+    requires { ⌜ sizesFit small (tablesOf (now tasks) (now promises)) ≡ true ⌝ }
+    ensures { λ r. ⌜ TakesQuietly small (step-new t p) (tablesOf (now (tasks .entry)) (now (promises .entry))) r (tablesOf (now (tasks .entry)) (now (promises .exit))) ⌝ }
 {
     let r = refusal(tasks, promises, t, p);
     if r != 0 {
@@ -52,11 +45,11 @@ pub fn step_new(
     t: u16,
     p: u16,
 ) -> Answer
-    ensures { λ r. ⌜ Gives (step small (length (now (report .entry))) (tablesOf (now (tasks .entry)) (now (promises .entry))) (step-new t p)) (now (report .entry)) r (now (tasks .exit)) (now (promises .exit)) (now (report .exit)) ⌝ }
+    ensures { λ r. ⌜ Takes small (step-new t p) (tablesOf (now (tasks .entry)) (now (promises .entry))) (now (report .entry)) r (tablesOf (now (tasks .exit)) (now (promises .exit))) (now (report .exit)) ⌝ }
 {
     let d = table_refusal(tasks, promises, report.len());
     if d != 0 {
         return Answer::Refused(d);
     }
-    raw_new(tasks, promises, report, t, p)
+    raw_new(tasks, promises, t, p)
 }

@@ -4,7 +4,7 @@
 --   numberAt s e       the number of the field after the tab at e, and where that field ends
 --   pairAt s e         two numbers, one field after the other
 --   lastPair s p       the same, where the line has to end after the second
---   recordOf s         the record of the line s; for async up to the child, with the place where the rest of the line starts
+--   recordOf s         the record of the line s; for a step with a list up to its numbers, with the place where the rest of the line starts
 -- What a well-formed line is stands in `forms`, in the direction of printing; there it is proved that both agree.
 -- Assumes nothing.
 use Prim.Native.Nat.{ℕ, _+_}
@@ -16,6 +16,10 @@ use Rattle.fields.specs.Fields.{fieldEnd, fieldAt}
 use Rattle.numbers.specs.Numbers.{numberOf}
 use Rattle.numbers.specs.declared.Num.{Num}
 use Rattle.numbers.specs.declared.Num.the-variants as N
+use Rattle.kinds.specs.Kinds.{shapeOf}
+use Rattle.kinds.specs.declared.Kind.{Kind}
+use Rattle.kinds.specs.declared.Shape.{Shape}
+use Rattle.kinds.specs.declared.Shape.the-variants as H
 use Rattle.keywords.specs.Keywords.{keywordOf}
 use Rattle.keywords.specs.declared.Keyword.{Keyword}
 use Rattle.keywords.specs.declared.Keyword.the-variants as W
@@ -56,23 +60,25 @@ ofPair f (P.Is a b e) = f a b
 ofPair f (P.Bad k) = R.Bad k
 
 -- "async t c p..": the list starts where the child's field ends
-unfoldable pub ofAsync : Pair → Record
-ofAsync (P.Is a b e) = R.Async a b e
-ofAsync (P.Bad k) = R.Bad k
+unfoldable pub ofList : Kind → Pair → Record
+ofList k (P.Is a b e) = R.Listing k a b e
+ofList k (P.Bad j) = R.Bad j
 
 -- "end t"
-unfoldable pub ofEnd : List ℕ → Numbered → Record
-ofEnd s (S.Is a e) = cond (ltb e (length s)) (R.Bad e) (R.End a)
-ofEnd s (S.Bad k) = R.Bad k
+unfoldable pub ofOne : Kind → List ℕ → Numbered → Record
+ofOne k s (S.Is a e) = cond (ltb e (length s)) (R.Bad e) (R.Plain k a 0)
+ofOne k s (S.Bad j) = R.Bad j
 
--- "open T P", "new t p", "set t p", "get t p", "async t c p..", "end t"; e is where the word ends
+-- by what the kind takes
+unfoldable pub afterKind : List ℕ → ℕ → Kind → Shape → Record
+afterKind s e k H.One = ofOne k s (numberAt s e)
+afterKind s e k H.Two = ofPair (R.Plain k) (lastPair s (pairAt s e))
+afterKind s e k H.List = ofList k (pairAt s e)
+
+-- "open T P", and the steps; e is where the word ends
 unfoldable pub afterWord : List ℕ → ℕ → Keyword → Record
 afterWord s e W.Open = ofPair R.Open (lastPair s (pairAt s e))
-afterWord s e W.New = ofPair R.New (lastPair s (pairAt s e))
-afterWord s e W.Set = ofPair R.Set (lastPair s (pairAt s e))
-afterWord s e W.Get = ofPair R.Get (lastPair s (pairAt s e))
-afterWord s e W.Async = ofAsync (pairAt s e)
-afterWord s e W.End = ofEnd s (numberAt s e)
+afterWord s e (W.Step k) = afterKind s e k (shapeOf k)
 afterWord s e (W.Other k) = R.Bad k
 
 unfoldable pub recordOf : List ℕ → Record

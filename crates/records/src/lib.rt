@@ -1,8 +1,12 @@
 // One record a line: its word, and its numbers, each field handed back by a reader of the line. A line that is none has the column of
 // its first bad byte.
 ghost use mathlib.Core.Path.{_≡_};
-ghost use Rattle.records.specs.Records.{numberAt, pairAt, lastPair, ofEnd, recordOf};
+ghost use Rattle.records.specs.Records.{numberAt, pairAt, lastPair, ofOne, afterKind, recordOf};
+ghost use Rattle.kinds.specs.Kinds.{shapeOf};
 use keywords::Keyword;
+use kinds::Kind;
+use kinds::Shape;
+use kinds::shape_of;
 use numbers::Num;
 
 // The number of a field and where the field ends; or the column of the first bad byte.
@@ -17,14 +21,12 @@ pub enum Pair {
     Bad(usize),
 }
 
-// The records. `Async` holds the acting task, the child, and where the rest of the line after the child starts: its list.
+// The records. `Listing` is a step that takes a list, with where the rest of the line after its numbers starts; `Plain` one that takes none. A step of one number has 0 for
+// the other.
 pub enum Record {
     Open(u16, u16),
-    New(u16, u16),
-    Set(u16, u16),
-    Get(u16, u16),
-    Async(u16, u16, usize),
-    End(u16),
+    Plain(Kind, u16, u16),
+    Listing(Kind, u16, u16, usize),
     Bad(usize),
 }
 
@@ -72,19 +74,36 @@ fn last_pair(line: &[u8], e: usize) -> Pair
     }
 }
 
-// The one number of an end, where the line has to end after it.
-fn end_of(line: &[u8], e: usize) -> Record
-    ensures { λ r. ⌜ r ≡ ofEnd (now (line .entry)) (numberAt (now (line .entry)) e) ⌝ }
+// A step of one number, where the line has to end after it.
+fn with_one(line: &[u8], e: usize, kind: Kind) -> Record
+    ensures { λ r. ⌜ r ≡ ofOne kind (now (line .entry)) (numberAt (now (line .entry)) e) ⌝ }
 {
     match number_at(line, e) {
         Numbered::Is(a, f) => {
             if f < line.len() {
                 Record::Bad(f)
             } else {
-                Record::End(a)
+                Record::Plain(kind, a, 0)
             }
         }
         Numbered::Bad(k) => Record::Bad(k),
+    }
+}
+
+// A step of the kind, by what the kind takes.
+fn step_after(line: &[u8], e: usize, kind: Kind) -> Record
+    ensures { λ r. ⌜ r ≡ afterKind (now (line .entry)) e kind (shapeOf kind) ⌝ }
+{
+    match shape_of(kind) {
+        Shape::One => with_one(line, e, kind),
+        Shape::Two => match last_pair(line, e) {
+            Pair::Is(a, b, _) => Record::Plain(kind, a, b),
+            Pair::Bad(k) => Record::Bad(k),
+        },
+        Shape::List => match pair_at(line, e) {
+            Pair::Is(a, b, f) => Record::Listing(kind, a, b, f),
+            Pair::Bad(k) => Record::Bad(k),
+        },
     }
 }
 
@@ -99,23 +118,7 @@ pub fn record_of(line: &[u8]) -> Record
             Pair::Is(a, b, _) => Record::Open(a, b),
             Pair::Bad(k) => Record::Bad(k),
         },
-        Keyword::New => match last_pair(line, e) {
-            Pair::Is(a, b, _) => Record::New(a, b),
-            Pair::Bad(k) => Record::Bad(k),
-        },
-        Keyword::Set => match last_pair(line, e) {
-            Pair::Is(a, b, _) => Record::Set(a, b),
-            Pair::Bad(k) => Record::Bad(k),
-        },
-        Keyword::Get => match last_pair(line, e) {
-            Pair::Is(a, b, _) => Record::Get(a, b),
-            Pair::Bad(k) => Record::Bad(k),
-        },
-        Keyword::Async => match pair_at(line, e) {
-            Pair::Is(a, b, f) => Record::Async(a, b, f),
-            Pair::Bad(k) => Record::Bad(k),
-        },
-        Keyword::End => end_of(line, e),
+        Keyword::Step(kind) => step_after(line, e, kind),
         Keyword::Other(k) => Record::Bad(k),
     }
 }

@@ -17,18 +17,18 @@ use Rattle.telling.proofs.AnswerWordLaws.{answerWords-length}
 use Rattle.registry.specs.Exports.{Exported, exported, Exports}
 
 -- fewer than four words are lent for the answer
-pub exports-short : (s : Tables) (rs ws : List ℕ) (o : Outcome) → length ws < 4 → Exports (exported s rs ws o) 1 (s .tasks) (s .promises) rs ws
+pub exports-short : (s : Tables) (rs ws : List ℕ) (o : Outcome) → length ws < 4 → Exports (exported s rs ws o) 1 s rs ws
 unfolding exported
-exports-short s rs ws o h = rw (lt-ltb (length ws) 4 h) (record { number = refl; tasks = refl; promises = refl; report = refl; answer = refl })
+exports-short s rs ws o h = rw (lt-ltb (length ws) 4 h) (record { number = refl; after = refl; report = refl; answer = refl })
 
-pub exports-step : (s : Tables) (ws : List ℕ) {rs ts ps rs′ ws′ : List ℕ} {o : Outcome} {a : Answer} {r : ℕ} → 4 ≤ length ws → Gives o rs a ts ps rs′ → r ≡ numberOf a
-    → ws′ ≡ sets ws 0 (answerWords a) → Exports (exported s rs ws o) r ts ps rs′ ws′
+pub exports-step : (s : Tables) (ws : List ℕ) {s′ : Tables} {rs rs′ ws′ : List ℕ} {o : Outcome} {a : Answer} {r : ℕ} → 4 ≤ length ws → Gives o rs a s′ rs′ → r ≡ numberOf a
+    → ws′ ≡ sets ws 0 (answerWords a) → Exports (exported s rs ws o) r s′ rs′ ws′
 unfolding exported
 exports-step s ws {a = a} h g e w =
     rw (le-ltb (length ws) 4 h, ← g .answer)
-    (record { number = e; tasks = g .tasks; promises = g .promises; report = g .report; answer = w ∙ sym (over-sets (answerWords a) ws (omega (arith, answerWords-length a))) })
+    (record { number = e; after = g .after; report = g .report; answer = w ∙ sym (over-sets (answerWords a) ws (omega (arith, answerWords-length a))) })
 
 -- any two outcomes that the contract of an exported step allows coincide
-pub exports-unique : {e : Exported} {r r′ : ℕ} {ts ts′ ps ps′ rs rs′ ws ws′ : List ℕ} → Exports e r ts ps rs ws → Exports e r′ ts′ ps′ rs′ ws′
-    → (r ≡ r′) × (ts ≡ ts′) × (ps ≡ ps′) × (rs ≡ rs′) × (ws ≡ ws′)
-exports-unique g h = (g .number ∙ sym (h .number), g .tasks ∙ sym (h .tasks), g .promises ∙ sym (h .promises), g .report ∙ sym (h .report), g .answer ∙ sym (h .answer))
+pub exports-unique : {e : Exported} {r r′ : ℕ} {s s′ : Tables} {rs rs′ ws ws′ : List ℕ} → Exports e r s rs ws → Exports e r′ s′ rs′ ws′
+    → (r ≡ r′) × (s ≡ s′) × (rs ≡ rs′) × (ws ≡ ws′)
+exports-unique g h = (g .number ∙ sym (h .number), g .after ∙ sym (h .after), g .report ∙ sym (h .report), g .answer ∙ sym (h .answer))

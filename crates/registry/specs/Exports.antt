@@ -1,9 +1,9 @@
 -- What the exported functions return and write: the answer of a step as a number and four lent words.
 --
---   Exported              the returned number, both tables, the report and the answer words after a call
+--   Exported              the returned number, the tables, the report and the answer words after a call
 --   exported s rs ws o    those of the outcome o of a step on the tables s with the report rs, and the words ws lent for the answer; with fewer than four words lent
 --                         for it the call is refused by 1, and nothing is written
---   Exports e r ts ps rs ws   a call returned r and left these
+--   Exports e r s′ rs ws   a call returned r and left these
 -- Assumes nothing.
 use Prim.Native.Nat.{ℕ}
 use mathlib.Core.Path.{_≡_}
@@ -19,25 +19,22 @@ use Rattle.telling.specs.AnswerWords.{answerWords}
 
 pub record Exported : Type 0 where
   pub number : ℕ
-  pub tasks : List ℕ
-  pub promises : List ℕ
+  pub after : Tables
   pub report : List ℕ
   pub answer : List ℕ
 
 unfoldable pub exported : Tables → List ℕ → List ℕ → Outcome → Exported
 exported s rs ws o =
-    cond (ltb (length ws) 4) (record { number = 1; tasks = s .tasks; promises = s .promises; report = rs; answer = ws })
+    cond (ltb (length ws) 4) (record { number = 1; after = s; report = rs; answer = ws })
     (record {
       number = numberOf (o .answer);
-      tasks = o .after .tasks;
-      promises = o .after .promises;
+      after = o .after;
       report = over (o .words) rs;
       answer = over (answerWords (o .answer)) ws;
     })
 
-pub record Exports (e : Exported) (r : ℕ) (ts ps rs ws : List ℕ) : Type 0 where
+pub record Exports (e : Exported) (r : ℕ) (s′ : Tables) (rs ws : List ℕ) : Type 0 where
   pub number : r ≡ e .number
-  pub tasks : ts ≡ e .tasks
-  pub promises : ps ≡ e .promises
+  pub after : s′ ≡ e .after
   pub report : rs ≡ e .report
   pub answer : ws ≡ e .answer

@@ -28,7 +28,7 @@ pub extern "C" fn registry_is_sound(tasks: &[u16], promises: &[u16]) -> bool
 // Makes the lent tables fresh: 0, or 1 if one is too short or too long.
 #[no_mangle]
 pub extern "C" fn registry_fresh(tasks: &mut [u16], promises: &mut [u16]) -> u16
-    ensures { λ r. ⌜ Freshens small (tablesOf (now (tasks .entry)) (now (promises .entry))) r (now (tasks .exit)) (now (promises .exit)) ⌝ }
+    ensures { λ r. ⌜ Freshens small (tablesOf (now (tasks .entry)) (now (promises .entry))) r (tablesOf (now (tasks .exit)) (now (promises .exit))) ⌝ }
 {
     opening::fresh(tasks, promises)
 }
@@ -42,7 +42,7 @@ pub extern "C" fn registry_step_new(
     p: u16,
     answer: &mut [u16],
 ) -> u16
-    ensures { λ r. ⌜ Exports (exported (tablesOf (now (tasks .entry)) (now (promises .entry))) (now (report .entry)) (now (answer .entry)) (step small (length (now (report .entry))) (tablesOf (now (tasks .entry)) (now (promises .entry))) (step-new t p))) r (now (tasks .exit)) (now (promises .exit)) (now (report .exit)) (now (answer .exit)) ⌝ }
+    ensures { λ r. ⌜ Exports (exported (tablesOf (now (tasks .entry)) (now (promises .entry))) (now (report .entry)) (now (answer .entry)) (step small (length (now (report .entry))) (tablesOf (now (tasks .entry)) (now (promises .entry))) (step-new t p))) r (tablesOf (now (tasks .exit)) (now (promises .exit))) (now (report .exit)) (now (answer .exit)) ⌝ }
 {
     if answer.len() < 4 {
         return 1;
@@ -59,7 +59,7 @@ pub extern "C" fn registry_step_set(
     p: u16,
     answer: &mut [u16],
 ) -> u16
-    ensures { λ r. ⌜ Exports (exported (tablesOf (now (tasks .entry)) (now (promises .entry))) (now (report .entry)) (now (answer .entry)) (step small (length (now (report .entry))) (tablesOf (now (tasks .entry)) (now (promises .entry))) (step-set t p))) r (now (tasks .exit)) (now (promises .exit)) (now (report .exit)) (now (answer .exit)) ⌝ }
+    ensures { λ r. ⌜ Exports (exported (tablesOf (now (tasks .entry)) (now (promises .entry))) (now (report .entry)) (now (answer .entry)) (step small (length (now (report .entry))) (tablesOf (now (tasks .entry)) (now (promises .entry))) (step-set t p))) r (tablesOf (now (tasks .exit)) (now (promises .exit))) (now (report .exit)) (now (answer .exit)) ⌝ }
 {
     if answer.len() < 4 {
         return 1;
@@ -76,7 +76,7 @@ pub extern "C" fn registry_step_get(
     p: u16,
     answer: &mut [u16],
 ) -> u16
-    ensures { λ r. ⌜ Exports (exported (tablesOf (now (tasks .entry)) (now (promises .entry))) (now (report .entry)) (now (answer .entry)) (step small (length (now (report .entry))) (tablesOf (now (tasks .entry)) (now (promises .entry))) (step-get t p))) r (now (tasks .exit)) (now (promises .exit)) (now (report .exit)) (now (answer .exit)) ⌝ }
+    ensures { λ r. ⌜ Exports (exported (tablesOf (now (tasks .entry)) (now (promises .entry))) (now (report .entry)) (now (answer .entry)) (step small (length (now (report .entry))) (tablesOf (now (tasks .entry)) (now (promises .entry))) (step-get t p))) r (tablesOf (now (tasks .exit)) (now (promises .exit))) (now (report .exit)) (now (answer .exit)) ⌝ }
 {
     if answer.len() < 4 {
         return 1;
@@ -94,7 +94,7 @@ pub extern "C" fn registry_step_async(
     list: &[u16],
     answer: &mut [u16],
 ) -> u16
-    ensures { λ r. ⌜ Exports (exported (tablesOf (now (tasks .entry)) (now (promises .entry))) (now (report .entry)) (now (answer .entry)) (step small (length (now (report .entry))) (tablesOf (now (tasks .entry)) (now (promises .entry))) (step-async t c (now (list .entry))))) r (now (tasks .exit)) (now (promises .exit)) (now (report .exit)) (now (answer .exit)) ⌝ }
+    ensures { λ r. ⌜ Exports (exported (tablesOf (now (tasks .entry)) (now (promises .entry))) (now (report .entry)) (now (answer .entry)) (step small (length (now (report .entry))) (tablesOf (now (tasks .entry)) (now (promises .entry))) (step-async t c (now (list .entry))))) r (tablesOf (now (tasks .exit)) (now (promises .exit))) (now (report .exit)) (now (answer .exit)) ⌝ }
 {
     if answer.len() < 4 {
         return 1;
@@ -110,7 +110,7 @@ pub extern "C" fn registry_step_end(
     t: u16,
     answer: &mut [u16],
 ) -> u16
-    ensures { λ r. ⌜ Exports (exported (tablesOf (now (tasks .entry)) (now (promises .entry))) (now (report .entry)) (now (answer .entry)) (step small (length (now (report .entry))) (tablesOf (now (tasks .entry)) (now (promises .entry))) (step-end t))) r (now (tasks .exit)) (now (promises .exit)) (now (report .exit)) (now (answer .exit)) ⌝ }
+    ensures { λ r. ⌜ Exports (exported (tablesOf (now (tasks .entry)) (now (promises .entry))) (now (report .entry)) (now (answer .entry)) (step small (length (now (report .entry))) (tablesOf (now (tasks .entry)) (now (promises .entry))) (step-end t))) r (tablesOf (now (tasks .exit)) (now (promises .exit))) (now (report .exit)) (now (answer .exit)) ⌝ }
 {
     if answer.len() < 4 {
         return 1;
@@ -127,7 +127,7 @@ pub extern "C" fn registry_batch(
     list: &[u16],
     answers: &mut [u16],
 ) -> u16
-    ensures { λ r. ⌜ Flats (flatly small (now (list .entry)) (tablesOf (now (tasks .entry)) (now (promises .entry))) (now (steps .entry)) (length (now (report .entry))) (length (now (answers .entry)))) (now (report .entry)) (now (answers .entry)) r (now (tasks .exit)) (now (promises .exit)) (now (report .exit)) (now (answers .exit)) ⌝ }
+    ensures { λ r. ⌜ Flats (flatly small (now (list .entry)) (tablesOf (now (tasks .entry)) (now (promises .entry))) (now (steps .entry)) (length (now (report .entry))) (length (now (answers .entry)))) (now (report .entry)) (now (answers .entry)) r (tablesOf (now (tasks .exit)) (now (promises .exit))) (now (report .exit)) (now (answers .exit)) ⌝ }
 {
     unpacking::batch_words(tasks, promises, report, steps, list, answers)
 }

@@ -20,6 +20,7 @@ use Rattle.rules.specs.Answers.{byNumber}
 use Rattle.rules.specs.Refusals.{first, entryRefusal, firstBad, newRows, getRows, ownRows, childRows}
 use Rattle.rules.specs.Steps.{Step, step-new, step-set, step-get, step-async, step-end, actor, Outcome, outcome, withMade, withSet, withWait, withStarted, withEnded, given, awaits, back, free, walk, followed, got, guarded, rows, effect, raw}
 use Rattle.rules.specs.declared.Answer.the-variants.{Value, Blamed, Waits, Cycle}
+use Rattle.rules.proofs.BoundsLaws.{AsLong, as-long, long-tasks, long-promises, long-words}
 use Rattle.rules.proofs.GuardLaws.{guarded-is, got-cases, started-by}
 use Rattle.rules.proofs.Moves.{Moves, SoundMoves}
 use Rattle.rules.proofs.RefusalLaws.{Acts, actorRows-none, childRows-none, newRows-none, getRows-none, ownRows-none, entryRefusal-none, firstBad-before}
@@ -80,22 +81,20 @@ module _ (F : Form) (s : Tables) where
   did-raw x = guarded-is _ (first (rows F s x)) s (effect F s x) (Did (F .base) s x) nothing (did-effect x)
 
 -- the tables stay as long as they were
-did-lengths : {B : ℕ} {s s′ : Tables} {x : Step} → Did B s x s′ → (length (s′ .tasks) ≡ length (s .tasks)) × (length (s′ .promises) ≡ length (s .promises))
-did-lengths nothing = (refl, refl)
-did-lengths {s = s} (made {t = t} {p = p} a b c) = (refl, length-set (s .promises) p (ownedBy t))
-did-lengths {s = s} (was-set {p = p} a b c) = (length-replaced (is (waitsOn p)) readyWord (s .tasks), length-set (s .promises) p setWord)
-did-lengths {s = s} (waited {t = t} {p = p} k a b m e) = (length-set (s .tasks) t (waitsOn p), refl)
-did-lengths {s = s} (began {c = c} {list = list} a b d good) = (length-set (s .tasks) c readyWord, length-given (ownedBy c) list (s .promises))
-did-lengths {B = B} {s = s} (has-ended {t = t} a) = (
-  length-set (woken B s t) t endedWord ∙ length-replaced (awaits (s .promises) (ownedBy t)) readyWord (s .tasks),
-  length-replaced (is (ownedBy t)) (blamedOn B t) (s .promises),
-)
+did-lengths : {B : ℕ} {s s′ : Tables} {x : Step} → Did B s x s′ → AsLong s′ s
+did-lengths {s = s} nothing = as-long s
+did-lengths {s = s} (made {t = t} {p = p} a b c) = long-promises s (length-set (s .promises) p (ownedBy t))
+did-lengths {s = s} (was-set {p = p} a b c) = long-words s (length-replaced (is (waitsOn p)) readyWord (s .tasks)) (length-set (s .promises) p setWord)
+did-lengths {s = s} (waited {t = t} {p = p} k a b m e) = long-tasks s (length-set (s .tasks) t (waitsOn p))
+did-lengths {s = s} (began {c = c} {list = list} a b d good) = long-words s (length-set (s .tasks) c readyWord) (length-given (ownedBy c) list (s .promises))
+did-lengths {B = B} {s = s} (has-ended {t = t} a) =
+    long-words s (length-set (woken B s t) t endedWord ∙ length-replaced (awaits (s .promises) (ownedBy t)) readyWord (s .tasks))
+    (length-replaced (is (ownedBy t)) (blamedOn B t) (s .promises))
 
 -- whatever refused the step before its own rows
-pub lengths-kept : (F : Form) (s : Tables) (x : Step) (r : ℕ)
-    → (length (guarded byNumber r s (raw F s x) .after .tasks) ≡ length (s .tasks)) × (length (guarded byNumber r s (raw F s x) .after .promises) ≡ length (s .promises))
+pub lengths-kept : (F : Form) (s : Tables) (x : Step) (r : ℕ) → AsLong (guarded byNumber r s (raw F s x) .after) s
 lengths-kept F s x r =
-    guarded-is _ r s (raw F s x) (λ (y : Tables). (length (y .tasks) ≡ length (s .tasks)) × (length (y .promises) ≡ length (s .promises))) (refl, refl) (λ z. did-lengths (did-raw F s x))
+    guarded-is _ r s (raw F s x) (λ (y : Tables). AsLong y s) (as-long s) (λ z. did-lengths (did-raw F s x))
 
 -- their words are as they were, or move as `Moves` says
 pub did-moves : {B : ℕ} {s s′ : Tables} {x : Step} → Did B s x s′ → (s′ ≡ s) ⊎ Moves (length (s .tasks)) (length (s .promises)) B (view s) (view s′) (actor x)
@@ -130,8 +129,7 @@ module _ (F : Form) (s : Tables) (fits : firstOwned + length (s .tasks) ≤ F .b
 -- the tables are as they were, or an accepted step of t moved their words
 pub data Took (B : ℕ) (s : Tables) (t : ℕ) (s′ : Tables) : Type 0 where
   stayed : s′ ≡ s → Took B s t s′
-  moved : length (s′ .tasks) ≡ length (s .tasks) → length (s′ .promises) ≡ length (s .promises)
-      → SoundMoves (length (s .tasks)) (length (s .promises)) B (view s) (view s′) t → Took B s t s′
+  moved : AsLong s′ s → SoundMoves (length (s .tasks)) (length (s .promises)) B (view s) (view s′) t → Took B s t s′
 
 module _ (F : Form) (s : Tables) (fits : firstOwned + length (s .tasks) ≤ F .base) (sd : Sound (F .base) s) where
   -- an owner's chain comes to a ready task
@@ -190,14 +188,14 @@ module _ (F : Form) (s : Tables) (fits : firstOwned + length (s .tasks) ≤ F .b
   took-did : {s′ : Tables} {x : Step} → Did (F .base) s x s′ → Took (F .base) s (actor x) s′
   took-did d = go d (did-lengths d)
     where
-      go : {s′ : Tables} {x : Step} → Did (F .base) s x s′ → (length (s′ .tasks) ≡ length (s .tasks)) × (length (s′ .promises) ≡ length (s .promises)) → Took (F .base) s (actor x) s′
-      go nothing (g, h) = stayed refl
-      go (made {t = t} {p = p} a b c) (g, h) = moved g h (new-sound (length (s .tasks)) (length (s .promises)) (F .base) fits s sd t (a .below) (a .ready) p b c)
-      go (was-set {t = t} {p = p} a b c) (g, h) = moved g h (set-sound (length (s .tasks)) (length (s .promises)) (F .base) fits s sd t (a .below) (a .ready) p b c)
-      go (waited {t = t} {p = p} k a b m e) (g, h) = moved g h (took-wait t p k a b m e)
-      go (began {t = t} {c = c} {list = list} a b d good) (g, h) =
-          moved g h (async-sound (length (s .tasks)) (length (s .promises)) (F .base) fits s sd t (a .below) (a .ready) c b b d list (λ q i. good q i .0) (λ q i. good q i .1))
-      go (has-ended {t = t} a) (g, h) = moved g h (end-sound (length (s .tasks)) (length (s .promises)) (F .base) fits s sd t (a .below) (a .ready) (a .below))
+      go : {s′ : Tables} {x : Step} → Did (F .base) s x s′ → AsLong s′ s → Took (F .base) s (actor x) s′
+      go nothing l = stayed refl
+      go (made {t = t} {p = p} a b c) l = moved l (new-sound (length (s .tasks)) (length (s .promises)) (F .base) fits s sd t (a .below) (a .ready) p b c)
+      go (was-set {t = t} {p = p} a b c) l = moved l (set-sound (length (s .tasks)) (length (s .promises)) (F .base) fits s sd t (a .below) (a .ready) p b c)
+      go (waited {t = t} {p = p} k a b m e) l = moved l (took-wait t p k a b m e)
+      go (began {t = t} {c = c} {list = list} a b d good) l =
+          moved l (async-sound (length (s .tasks)) (length (s .promises)) (F .base) fits s sd t (a .below) (a .ready) c b b d list (λ q i. good q i .0) (λ q i. good q i .1))
+      go (has-ended {t = t} a) l = moved l (end-sound (length (s .tasks)) (length (s .promises)) (F .base) fits s sd t (a .below) (a .ready) (a .below))
 
   pub took-raw : (x : Step) → Took (F .base) s (actor x) (raw F s x .after)
   took-raw x = took-did (did-raw F s x)

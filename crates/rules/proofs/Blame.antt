@@ -8,10 +8,10 @@ use Prim.Native.Nat.{ℕ, _+_, _-_, _<_, _≤_}
 use native.Mathlib.Omega.{arith}
 use borrow.Author.Tests.{eqb-false}
 use lib.ListN.{length, getD}
-use Rattle.words.specs.Words.{Form, inBounds, firstOwned, readyWord, endedWord, setWord, blamedOn}
+use Rattle.words.specs.Words.{Form, firstOwned, readyWord, endedWord, setWord, blamedOn}
 use Rattle.words.specs.Lists.{allBelow}
 use Rattle.words.proofs.BoolLaws.{clash}
-use Rattle.rules.specs.Tables.{Tables, taskAt, promiseAt, blamedTask}
+use Rattle.rules.specs.Tables.{Tables, taskAt, promiseAt, blamedTask, inBounds}
 use Rattle.rules.specs.Chains.{view}
 use Rattle.rules.specs.Sound.{PromiseWord, unmade, done, owned, blamed, soundTest}
 use Rattle.rules.specs.Refusals.{Row, first, tableRows, ownRows, entryRows, differs}
@@ -46,7 +46,7 @@ module _ (F : Form) (apart : Apart F) (n : ℕ) (s : Tables) where
     -- a number from 6 on is given by a row of the promise, and the task is ready
     own-given : (q : ℕ) → 5 < q → first (tableRows F n s ++ rows F s (step-set t p)) ≡ q → (taskAt s t ≡ readyWord) × (first own ≡ q)
     own-given q h e =
-        let (a, b, e₁) = tests-past (inBounds F (length (s .tasks)) (length (s .promises)) n) (soundTest (F .base) s) (rows F s (step-set t p)) (λ (z : 1 ≡ q). omega arith) (λ (z : 2 ≡ q). omega arith) e in
+        let (a, b, e₁) = tests-past (inBounds F n s) (soundTest (F .base) s) (rows F s (step-set t p)) (λ (z : 1 ≡ q). omega arith) (λ (z : 2 ≡ q). omega arith) e in
         let (act, e₂) = actorRows-past (s .tasks) t own (λ (z : 3 ≡ q). omega arith) (λ (z : 4 ≡ q). omega arith) (λ (z : 5 ≡ q). omega arith) e₁ in
         (act .ready, e₂)
 
@@ -144,7 +144,7 @@ module _ (F : Form) (apart : Apart F) (n : ℕ) (s : Tables) where
   -- a step leaves the word of a blamed promise: what it changes was unmade, or owned by the actor
   word-stays : (s′ : Tables) (t : ℕ) → firstOwned + length (s .tasks) ≤ F .base → Took (F .base) s t s′ → (p b : ℕ) → promiseAt s p ≡ blamedOn (F .base) b → promiseAt s′ p ≡ blamedOn (F .base) b
   word-stays s′ t f (stayed e) p b h = ap (λ (x : Tables). promiseAt x p) e ∙ h
-  word-stays s′ t f (moved a c m) p b h = go (m .moves .below) (m .moves .prom p)
+  word-stays s′ t f (moved l m) p b h = go (m .moves .below) (m .moves .prom p)
     where
       go : t < length (s .tasks) → PromiseMove (length (s .tasks)) (F .base) (view s) (view s′) t p → promiseAt s′ p ≡ blamedOn (F .base) b
       go k (p-same e) = e ∙ h

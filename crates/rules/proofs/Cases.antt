@@ -1,8 +1,9 @@
 -- The proved sets: the rules give each row of specs/ProvedSet.antt, by computation. Assumes nothing.
 use mathlib.Core.Path.{_≡_, refl}
 use mathlib.Core.List.{map}
-use Rattle.words.specs.Words.{sizesInBounds, inBounds}
+use Rattle.words.specs.Words.{sizesInBounds}
 use Rattle.words.specs.Lists.{allBelow, is, places, changed}
+use Rattle.rules.specs.Tables.{sizesFit, inBounds}
 use Rattle.rules.specs.Sound.{hop, comes, taskPasses, promisePasses, soundTest}
 use Rattle.rules.specs.Answers.{refusedWith, refusedAtWith}
 use Rattle.rules.specs.Refusals.{first, differs, entryRefusal, firstBad}
@@ -10,5 +11,5 @@ use Rattle.rules.specs.Steps.{given, awaits, walk, pairs, followed, got,
 use Rattle.rules.specs.ProvedSet.{provedSet, blamedSet, ringSet, taken, takenUntested, expected}
 
 pub proved-sets : (map taken provedSet ≡ map expected provedSet) × (map taken blamedSet ≡ map expected blamedSet) × (map takenUntested ringSet ≡ map expected ringSet)
-unfolding sizesInBounds inBounds allBelow is places changed hop comes taskPasses promisePasses soundTest first differs entryRefusal firstBad given awaits walk pairs followed got guarded started refusedWith refusedAtWith
+unfolding sizesInBounds sizesFit inBounds allBelow is places changed hop comes taskPasses promisePasses soundTest first differs entryRefusal firstBad given awaits walk pairs followed got guarded started refusedWith refusedAtWith
 proved-sets = (refl, refl, refl)

@@ -6,12 +6,12 @@ use mathlib.Core.Bool.{Bool, true, false, cond}
 use native.Mathlib.Omega.{arith}
 use lib.Dec.{eqb, leb}
 use lib.ListN.{length, length-append}
-use Rattle.words.specs.Words.{Form, setWord, firstOwned, waitsOn, ownedBy}
+use Rattle.words.specs.Words.{Form, roomFor, setWord, firstOwned, waitsOn, ownedBy}
 use Rattle.words.specs.Lists.{is, places}
 use Rattle.words.proofs.ListLaws.{places-length}
 use Rattle.rules.specs.Tables.{Tables, promiseAt, awaitedBy, ownerOf}
 use Rattle.rules.specs.Sound.{Hop, ready, lost, to, hop}
-use Rattle.rules.specs.Answers.{wordCount}
+use Rattle.rules.specs.Answers.{laid, wordCount}
 use Rattle.rules.specs.Steps.{Step, step-new, step-set, step-get, step-async, step-end, Outcome, outcome, Found, astray, back, free, walk, walkBy, pairs, awaits, followed, got, stepRefused, entryRefused, effect, raw, step}
 use Rattle.rules.specs.declared.Answer.{Answer}
 use Rattle.rules.specs.declared.Answer.the-variants.{Value, Blamed}
@@ -50,33 +50,33 @@ Counted o = length (o .words) ≡ wordCount (o .answer)
 
 -- a refusal has no words
 refused-counted : (F : Form) (s : Tables) (x : Step) (r : ℕ) → Counted (outcome (stepRefused F s x r) s [])
-unfolding wordCount
+unfolding laid
 refused-counted F s x r = stepRefused-by (λ (a : Answer). 0 ≡ wordCount a) F s x r (λ b e. refl) refl
 
 entry-counted : (B : ℕ) (s : Tables) (t : ℕ) (list : List ℕ) (i : ℕ) → Counted (outcome (entryRefused B s t list i) s [])
-unfolding wordCount
+unfolding laid
 entry-counted B s t list i = at-with-by (λ (a : Answer). 0 ≡ wordCount a) _ i _ (λ e. refl) (λ n. refl)
 
 effect-counted : (F : Form) (s : Tables) (x : Step) → Counted (effect F s x)
-unfolding wordCount
+unfolding laid
 effect-counted F s (step-new t p) = refl
-effect-counted F s (step-set t p) = refl
-effect-counted F s (step-get t p) = got-cases Counted (F .base) s t p (promiseAt s p) refl (λ b. refl) (λ k. pairs-length k s t p) (λ k. refl)
+effect-counted F s (step-set t p) = omega arith
+effect-counted F s (step-get t p) = got-cases Counted (F .base) s t p (promiseAt s p) refl (λ b. refl) (λ k. omega (arith, pairs-length k s t p)) (λ k. refl)
 effect-counted F s (step-async t c list) = started-by Counted (F .base) s t c list _ (λ h. entry-counted (F .base) s t list _) (λ h. refl)
-effect-counted F s (step-end t) = length-append (places (is (ownedBy t)) 0 (s .promises)) (places (awaits (s .promises) (ownedBy t)) 0 (s .tasks))
+effect-counted F s (step-end t) = omega (arith, length-append (places (is (ownedBy t)) 0 (s .promises)) (places (awaits (s .promises) (ownedBy t)) 0 (s .tasks)))
 
 pub raw-counted : (F : Form) (s : Tables) (x : Step) → Counted (raw F s x)
 raw-counted F s x = guarded-by Counted _ _ s _ (λ m. refused-counted F s x _) (λ z. effect-counted F s x)
 
 pub step-counted : (F : Form) (n : ℕ) (s : Tables) (x : Step) → Counted (step F n s x)
-unfolding wordCount
+unfolding laid
 step-counted F n s x = guarded-by Counted _ _ s _ (λ m. refl) (λ z. raw-counted F s x)
 
 -- ---- at most P + 2T
 
 module _ (F : Form) (s : Tables) where
   abbrev HasRoom : Outcome → Type 0
-  HasRoom o = length (o .words) ≤ length (s .promises) + 2 * length (s .tasks)
+  HasRoom o = length (o .words) ≤ roomFor (length (s .tasks)) (length (s .promises))
 
   got-room : (t p w : ℕ) → HasRoom (got (F .base) s t p w)
   unfolding got followed

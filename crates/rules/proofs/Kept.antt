@@ -3,20 +3,20 @@ use mathlib.Core.Path.{_≡_, refl, sym, ap, subst, subst₂, _∙_}
 use mathlib.Core.Logic.{_⊎_, inl, inr}
 use mathlib.Core.List.{List, [], _∷_, _++_}
 use mathlib.Core.Bool.{true}
-use Prim.Native.Nat.{ℕ, _+_, _*_, _≤_, _<_}
+use Prim.Native.Nat.{ℕ, _+_, _≤_, _<_}
 use native.Mathlib.Omega.{arith}
 use native.Mathlib.Decide.{ℕ-discrete, decLt}
 use lib.ListN.{length, getD, replicate, length-set, length-replicate, getD-replicate, List·getD-eq-default}
 use lib.Seq.{getD-set-same, getD-set-other}
-use Rattle.words.specs.Words.{Form, inBounds, unusedWord, readyWord, waitsOn, firstOwned}
-use Rattle.words.proofs.WordLaws.{inBounds-true, inBounds-of}
-use Rattle.rules.specs.Tables.{Tables, tables, taskAt, fresh}
+use Rattle.words.specs.Words.{Form, roomFor, unusedWord, readyWord, waitsOn, firstOwned}
+use Rattle.rules.specs.Tables.{Tables, tables, inBounds, taskAt, fresh}
 use Rattle.rules.specs.Chains.{view}
 use Rattle.rules.specs.Sound.{Live, TaskWord, unused, ready, unmade, SoundView, Sound}
 use Rattle.rules.specs.Refusals.{Row, first, tableRows, actorRows}
 use Rattle.rules.specs.Steps.{Step, actor, raw, step, run}
 use Rattle.rules.specs.Demands.{Apart, Good, Refusal}
 use Rattle.rules.specs.declared.Answer.{Answer}
+use Rattle.rules.proofs.BoundsLaws.{AsLong, inBounds-true, inBounds-of, inBounds-kept}
 use Rattle.rules.proofs.GuardLaws.{guarded-is}
 use Rattle.rules.proofs.Accepted.{lengths-kept, Took, stayed, moved, took-raw}
 use Rattle.rules.proofs.Moves.{sound-step}
@@ -27,11 +27,11 @@ use Rattle.rules.proofs.SoundTest.{soundTest-sound, sound-soundTest}
 
 module _ (F : Form) (apart : Apart F) (n : ℕ) where
   -- the owned words of tables within their bounds end before the blamed ones begin
-  pub fits : (s : Tables) → inBounds F (length (s .tasks)) (length (s .promises)) n ≡ true → firstOwned + length (s .tasks) ≤ F .base
-  fits s b = omega (arith, apart, inBounds-true F (length (s .tasks)) (length (s .promises)) n b .tasks)
+  pub fits : (s : Tables) → inBounds F n s ≡ true → firstOwned + length (s .tasks) ≤ F .base
+  fits s b = omega (arith, apart, inBounds-true F n s b .tasks)
 
   -- refusals 1 and 2 are not given
-  bounds-of : (s : Tables) → first (tableRows F n s) ≡ 0 → inBounds F (length (s .tasks)) (length (s .promises)) n ≡ true
+  bounds-of : (s : Tables) → first (tableRows F n s) ≡ 0 → inBounds F n s ≡ true
   bounds-of s e = tableRows-none F n s e .0
 
   sound-of : (s : Tables) → first (tableRows F n s) ≡ 0 → Sound (F .base) s
@@ -51,8 +51,8 @@ module _ (F : Form) (apart : Apart F) (n : ℕ) where
 
   sound-by : (s s′ : Tables) (t : ℕ) → firstOwned + length (s .tasks) ≤ F .base → Sound (F .base) s → Took (F .base) s t s′ → Sound (F .base) s′
   sound-by s s′ t f sd (stayed e) = subst (Sound (F .base)) (sym e) sd
-  sound-by s s′ t f sd (moved e g st) =
-      subst₂ (λ (x y : ℕ). SoundView x y (F .base) (view s′)) (sym e) (sym g)
+  sound-by s s′ t f sd (moved l st) =
+      subst₂ (λ (x y : ℕ). SoundView x y (F .base) (view s′)) (sym (l .tasks)) (sym (l .promises))
       (sound-step (length (s .tasks)) (length (s .promises)) (F .base) f (view s) (view s′) t sd st)
 
   -- a step leaves the tables sound, from any sound tables
@@ -62,7 +62,7 @@ module _ (F : Form) (apart : Apart F) (n : ℕ) where
       (λ e. sound-by s (raw F s x .after) (actor x) (fits s (bounds-of s e)) sd (took-raw F s (fits s (bounds-of s e)) sd x))
 
   -- and as long as they were
-  pub step-lengths : (s : Tables) (x : Step) → (length (step F n s x .after .tasks) ≡ length (s .tasks)) × (length (step F n s x .after .promises) ≡ length (s .promises))
+  pub step-lengths : (s : Tables) (x : Step) → AsLong (step F n s x .after) s
   step-lengths s x = lengths-kept F s x (first (tableRows F n s))
 
   -- refusals 1 and 2 are not given to good tables
@@ -77,11 +77,7 @@ module _ (F : Form) (apart : Apart F) (n : ℕ) where
 
   pub good-step : (s : Tables) (x : Step) → Good F n s → Good F n (step F n s x .after)
   good-step s x g =
-      let (a, b) = step-lengths s x in
-      record {
-        bounds = subst₂ (λ (i j : ℕ). inBounds F i j n ≡ true) (sym a) (sym b) (g .bounds);
-        sound = sound-kept s (g .sound) x;
-      }
+      record { bounds = inBounds-kept F n (step-lengths s x) (g .bounds); sound = sound-kept s (g .sound) x }
 
   pub good-run : (s : Tables) (xs : List Step) → Good F n s → Good F n (run F n s xs)
   good-run s [] g = g
@@ -138,9 +134,9 @@ module _ (T P : ℕ) (some : 1 ≤ T) where
     chainComes = λ v p w. absurd (none-waits v p w (fresh-task v));
   }
 
-  pub fresh-good : (F : Form) → Apart F → (n : ℕ) → T ≤ F .mostTasks → P ≤ F .mostPromises → P + 2 * T ≤ n → Good F n (fresh T P)
+  pub fresh-good : (F : Form) → Apart F → (n : ℕ) → T ≤ F .mostTasks → P ≤ F .mostPromises → roomFor T P ≤ n → Good F n (fresh T P)
   fresh-good F apart n most most′ room = record {
-    bounds = subst₂ (λ (i j : ℕ). inBounds F i j n ≡ true) (sym lt) (sym lp) (inBounds-of F T P n (record { some = some; tasks = most; promises = most′; room = room }));
+    bounds = inBounds-of F n (fresh T P) (record { some = rw lt some; tasks = rw lt most; promises = rw lp most′; room = rw (lt, lp) room });
     sound = fresh-sound (F .base) (omega (arith, apart));
   }
     where

@@ -1,5 +1,6 @@
 pub mod Cases
 pub mod AnswerLaws
+pub mod BoundsLaws
 pub mod RefusalLaws
 pub mod PlaceLaws
 pub mod GivesLaws
@@ -15,6 +16,7 @@ pub mod Waiting
 pub mod InTurn
 pub mod Order
 pub mod Counts
+pub mod Told
 pub mod Named
 pub mod Alarms
 pub mod Blame

@@ -39,11 +39,11 @@ promise-made T B f s s′ t q (p-moved c x a b g) h z = omega arith
 module _ (F : Form) (apart : Apart F) (n : ℕ) where
   task-by : (s s′ : Tables) (t : ℕ) → Took (F .base) s t s′ → (v : ℕ) → taskAt s v ≢ unusedWord → taskAt s′ v ≢ unusedWord
   task-by s s′ t (stayed e) v h = λ z. h (sym (ap (λ (x : Tables). taskAt x v) e) ∙ z)
-  task-by s s′ t (moved a b m) v h = task-used (length (s .promises)) (F .base) (view s) (view s′) t v (m .moves .task v) h
+  task-by s s′ t (moved l m) v h = task-used (length (s .promises)) (F .base) (view s) (view s′) t v (m .moves .task v) h
 
   promise-by : (s s′ : Tables) (t : ℕ) → Took (F .base) s t s′ → (q : ℕ) → promiseAt s q ≢ unmadeWord → promiseAt s′ q ≢ unmadeWord
   promise-by s s′ t (stayed e) q h = λ z. h (sym (ap (λ (x : Tables). promiseAt x q) e) ∙ z)
-  promise-by s s′ t (moved a b m) q h = promise-made (length (s .tasks)) (F .base) (omega (arith, apart)) (view s) (view s′) t q (m .moves .prom q) h
+  promise-by s s′ t (moved l m) q h = promise-made (length (s .tasks)) (F .base) (omega (arith, apart)) (view s) (view s′) t q (m .moves .prom q) h
 
   -- after a step, from any tables, a task that was used is used
   pub task-step-used : (s : Tables) (x : Step) (t : ℕ) → taskAt s t ≢ unusedWord → taskAt (step F n s x .after) t ≢ unusedWord

@@ -1,7 +1,7 @@
 -- Demand 1 over the definitions: a step is refused exactly when a row of the table applies, by the number of the first, and a refusal changes nothing. The two
 -- guards of a step are one guard by all its rows. Assumes nothing.
 use mathlib.Core.Path.{_≡_, refl, sym, ap, subst, _∙_}
-use mathlib.Core.Logic.{_≢_}
+use mathlib.Core.Logic.{_⊎_, inl, inr, _≢_}
 use mathlib.Core.List.{List, [], _∷_, _++_}
 use mathlib.Core.Bool.{Bool, true, false, cond, not}
 use Prim.Native.Nat.{ℕ, zero, suc, _+_, _≤_, _<_}
@@ -10,20 +10,20 @@ use native.Mathlib.Decide.{ℕ-discrete}
 use lib.Dec.{eqb}
 use borrow.Author.Tests.{eqb-false, eq-eqb, ne-eqb, lt-ltb}
 use lib.ListN.{length, getD}
-use Rattle.words.specs.Words.{Form, inBounds}
+use Rattle.words.specs.Words.{Form}
 use Rattle.words.specs.Lists.{In, top, pop}
 use Rattle.words.proofs.BoolLaws.{clash}
 use Rattle.words.proofs.ListLaws.{in-left, in-right}
-use Rattle.rules.specs.Tables.{Tables, promiseAt, blamedTask}
+use Rattle.rules.specs.Tables.{Tables, promiseAt, blamedTask, inBounds}
 use Rattle.rules.specs.Sound.{soundTest}
-use Rattle.rules.specs.Answers.{numberOf, valuesOf, byNumber, refusedAtWith}
+use Rattle.rules.specs.Answers.{laid, numberOf, valuesOf, byNumber, refusedAtWith}
 use Rattle.rules.specs.Refusals.{Row, first, earlier, tableRows, entryRows, entryRefusal, firstBad}
 use Rattle.rules.specs.Steps.{Step, step-new, step-set, step-get, step-async, step-end, Outcome, outcome, got, guarded, entryRefused, started, rows, stepRefused, effect, raw, step}
-use Rattle.rules.specs.Demands.{numbers, paperRows, paperEntryRows, paperNumbers, FirstGiven, now, later, NoneGiven, no-row, not-this, BadPlace, Refusal, plain, placed, blamed, blamed-at, HowRefused, by-row, for-entry}
+use Rattle.rules.specs.Demands.{numbers, paperRows, paperEntryRows, paperNumbers, FirstGiven, now, later, NoneGiven, no-row, not-this, BadPlace, Refusal, HowRefused, by-row, for-entry}
 use Rattle.rules.specs.declared.Answer.{Answer}
-use Rattle.rules.specs.declared.Answer.the-variants.{Opened, Made, Set, Value, Blamed, Waits, Cycle, Started, Ended, Refused, RefusedAt, RefusedBlamed, RefusedBlamedAt}
+use Rattle.rules.specs.declared.Answer.the-variants.{Started, Refused}
 use Rattle.rules.proofs.GuardLaws.{guarded-by, guarded-none, guarded-some, got-cases, started-by}
-use Rattle.rules.proofs.AnswerLaws.{at-with-by, at-with-number, at-with-same, at-with-refuses, at-with-plain, stepRefused-refuses, stepRefused-number, stepRefused-plain}
+use Rattle.rules.proofs.AnswerLaws.{Accepted, accepted-or-refused, at-with-by, at-with-number, at-with-same, at-with-refuses, at-with-plain, stepRefused-refuses, stepRefused-number, stepRefused-plain}
 use Rattle.rules.proofs.PlaceLaws.{firstBad-place}
 use Rattle.rules.proofs.RefusalLaws.{Numbered, row, first-append, actorRows-numbered, firstBad-before}
 use Rattle.rules.proofs.RefusalLaws as laws
@@ -108,7 +108,7 @@ guarded-joined f g {xs} ys s o m k = guarded-twice f g (first xs) (first ys) s o
 -- 1 and 2 are given by number alone
 tables-not-17 : (F : Form) (n : ℕ) (s : Tables) → first (tableRows F n s) ≢ 17
 unfolding first
-tables-not-17 F n s = go (not (inBounds F (length (s .tasks)) (length (s .promises)) n)) (not (soundTest (F .base) s))
+tables-not-17 F n s = go (not (inBounds F n s)) (not (soundTest (F .base) s))
   where
     go : (a b : Bool) → first ((1, a) ∷ (2, b) ∷ []) ≢ 17
     go true b e = absurd (omega arith)
@@ -298,7 +298,7 @@ how-refused F n s x =
 -- a step refused by r has the answer number r and, but for 17, no value
 pub first-number : (F : Form) (n : ℕ) (s : Tables) (x : Step) (r : ℕ) → FirstGiven r (tableRows F n s ++ rows F s x)
     → (numberOf (step F n s x .answer) ≡ r) × (r ≢ 17 → valuesOf (step F n s x .answer) ≡ [])
-unfolding valuesOf
+unfolding laid
 first-number F n s x r g =
     let e = ap (λ (o : Outcome). o .answer) (first-refused F n s x r g) in
     (ap numberOf e ∙ stepRefused-number F s x r, λ m. ap valuesOf (e ∙ stepRefused-plain F s x r m))
@@ -306,27 +306,18 @@ first-number F n s x r g =
 -- refused for an entry, it has the answer number r and, but for 17, the entry's place as its one value
 pub placed-number : (F : Form) (n : ℕ) (s : Tables) (t c : ℕ) (list : List ℕ) (r i : ℕ) → NoneGiven (tableRows F n s ++ rows F s (step-async t c list))
     → BadPlace (F .base) (s .promises) t list r i → (numberOf (step F n s (step-async t c list) .answer) ≡ r) × (r ≢ 17 → valuesOf (step F n s (step-async t c list) .answer) ≡ i ∷ [])
-unfolding valuesOf
+unfolding laid
 placed-number F n s t c list r i none p =
     let e = ap (λ (o : Outcome). o .answer) (first-placed F n s t c list r i none p) in
     (ap numberOf e ∙ at-with-number _ i r, λ m. ap valuesOf (e ∙ at-with-plain _ i r m))
 
 -- every other answer has a number from 100 on
 pub number-refuses : (a : Answer) → numberOf a < 100 → Refusal a
-unfolding numberOf
-number-refuses Opened h = absurd (omega arith)
-number-refuses Made h = absurd (omega arith)
-number-refuses (Set m) h = absurd (omega arith)
-number-refuses Value h = absurd (omega arith)
-number-refuses (Blamed b) h = absurd (omega arith)
-number-refuses (Waits k) h = absurd (omega arith)
-number-refuses (Cycle k) h = absurd (omega arith)
-number-refuses Started h = absurd (omega arith)
-number-refuses (Ended m k) h = absurd (omega arith)
-number-refuses (Refused r) h = plain r
-number-refuses (RefusedAt r i) h = placed r i
-number-refuses (RefusedBlamed b) h = blamed b
-number-refuses (RefusedBlamedAt i b) h = blamed-at i b
+number-refuses a h = go (accepted-or-refused a)
+  where
+    go : Accepted a ⊎ Refusal a → Refusal a
+    go (inl c) = absurd (omega (arith, c .from-100))
+    go (inr w) = w
 
 -- ---- a step is refused by a number of its own
 

@@ -4,15 +4,15 @@ use mathlib.Core.Path.{_≡_, refl, sym, _∙_}
 use mathlib.Core.Logic.{_⊎_, _≢_}
 use mathlib.Core.List.{List, [], _∷_, _++_, map}
 use mathlib.Core.Bool.{true}
-use Prim.Native.Nat.{ℕ, _+_, _*_, _≤_, _<_}
-use lib.Dec.{lit≤}
+use Prim.Native.Nat.{ℕ, _+_, _≤_, _<_}
+use lib.Dec.{ltb, lit≤}
 use lib.ListN.{length, getD, replicate}
-use Rattle.words.specs.Words.{Form, small, inBounds, unusedWord, readyWord, endedWord, waitsOn, unmadeWord, setWord, firstOwned, ownedBy, blamedOn}
+use Rattle.words.specs.Words.{Form, small, roomFor, unusedWord, readyWord, endedWord, waitsOn, unmadeWord, setWord, firstOwned, ownedBy, blamedOn}
 use Rattle.words.specs.Lists.{In}
-use Rattle.rules.specs.Tables.{Tables, tables, taskAt, promiseAt, liveTasks, closed, blamedTask, fresh}
+use Rattle.rules.specs.Tables.{Tables, tables, taskAt, promiseAt, liveTasks, closed, blamedTask, fresh, inBounds}
 use Rattle.rules.specs.Chains.{Chain, waits}
 use Rattle.rules.specs.Sound.{Live, Sound, soundTest}
-use Rattle.rules.specs.Answers.{numberOf, valuesOf, wordCount, refusedAtWith}
+use Rattle.rules.specs.Answers.{laid, numberOf, valuesOf, wordCount, answerOf, refusedAtWith}
 use Rattle.rules.specs.Refusals.{tableRows, entryRows}
 use Rattle.rules.specs.Steps.{Step, step-new, step-set, step-get, step-async, step-end, Outcome, outcome, withWait, pairs, rows, stepRefused, step, untested, ran, run}
 use Rattle.rules.specs.ProvedSet.{provedSet, blamedSet, ringSet, taken, takenUntested, expected}
@@ -35,6 +35,7 @@ use Rattle.rules.proofs.Order as order
 use Rattle.rules.proofs.Policy as policy
 use Rattle.rules.proofs.Rings as rings
 use Rattle.rules.proofs.SoundTest as test
+use Rattle.rules.proofs.Told as told
 use Rattle.rules.proofs.Waiting as waiting
 
 -- ---- the proved set
@@ -103,6 +104,14 @@ module _ (F : Form) (n : ℕ) (s : Tables) where
   pub refused-by-a-number-of-its-own : (x : Step) → Refusal (step F n s x .answer) → In (numberOf (step F n s x .answer)) (paperNumbers x)
   refused-by-a-number-of-its-own = order.own-number F n s
 
+  -- the number and the values of an answer tell which it is, and with which counts: no two answers of steps are told alike
+  pub the-number-and-the-values-tell-the-answer : (x : Step) → answerOf (numberOf (step F n s x .answer)) (valuesOf (step F n s x .answer)) ≡ step F n s x .answer
+  the-number-and-the-values-tell-the-answer x = told.step-told F n s x .0
+
+  -- and the answer is laid out as a refusal if its number is below 100
+  pub a-number-below-100-is-laid-out-as-a-refusal : (x : Step) → laid (step F n s x .answer) .refuses ≡ ltb (numberOf (step F n s x .answer)) 100
+  a-number-below-100-is-laid-out-as-a-refusal x = told.step-told F n s x .1
+
   -- a place is at most P, however long the list is
   pub a-place-is-at-most-P : (t c : ℕ) (list : List ℕ) (r i b : ℕ) → step F n s (step-async t c list) .answer ≡ refusedAtWith b i r → i ≤ length (s .promises)
   a-place-is-at-most-P = order.placed-within F n s
@@ -115,16 +124,16 @@ module _ (F : Form) (n : ℕ) (s : Tables) where
   pub the-answer-counts-its-words : (x : Step) → length (step F n s x .words) ≡ wordCount (step F n s x .answer)
   the-answer-counts-its-words = counts.step-counted F n s
 
-  pub the-words-have-room : (x : Step) → length (step F n s x .words) ≤ length (s .promises) + 2 * length (s .tasks)
+  pub the-words-have-room : (x : Step) → length (step F n s x .words) ≤ roomFor (length (s .tasks)) (length (s .promises))
   the-words-have-room = counts.step-room F s n
 
 -- any two outcomes that the contract of a step allows coincide
-pub one-outcome : {o : Outcome} {rs : List ℕ} {a a′ : Answer} {ts ts′ ps ps′ after after′ : List ℕ} → Gives o rs a ts ps after → Gives o rs a′ ts′ ps′ after′
-    → (a ≡ a′) × (ts ≡ ts′) × (ps ≡ ps′) × (after ≡ after′)
-one-outcome g h = (g .answer ∙ sym (h .answer), g .tasks ∙ sym (h .tasks), g .promises ∙ sym (h .promises), g .report ∙ sym (h .report))
+pub one-outcome : {o : Outcome} {rs : List ℕ} {a a′ : Answer} {s s′ : Tables} {after after′ : List ℕ} → Gives o rs a s after → Gives o rs a′ s′ after′
+    → (a ≡ a′) × (s ≡ s′) × (after ≡ after′)
+one-outcome g h = (g .answer ∙ sym (h .answer), g .after ∙ sym (h .after), g .report ∙ sym (h .report))
 
-pub one-freshening : {F : Form} {s : Tables} {r r′ : ℕ} {ts ts′ ps ps′ : List ℕ} → Freshens F s r ts ps → Freshens F s r′ ts′ ps′ → (r ≡ r′) × (ts ≡ ts′) × (ps ≡ ps′)
-one-freshening g h = (g .number ∙ sym (h .number), g .tasks ∙ sym (h .tasks), g .promises ∙ sym (h .promises))
+pub one-freshening : {F : Form} {s : Tables} {r r′ : ℕ} {x x′ : Tables} → Freshens F s r x → Freshens F s r′ x′ → (r ≡ r′) × (x ≡ x′)
+one-freshening g h = (g .number ∙ sym (h .number), g .after ∙ sym (h .after))
 
 -- ---- the published policy (specs/Published.antt)
 
@@ -249,7 +258,7 @@ demand-3-of F apart n s g = record {
 }
 
 -- "From fresh tables, after any steps": all four sentences of specs/Demands.antt, `Demand3`
-pub demand-3 : (F : Form) → Apart F → (n T P : ℕ) → 1 ≤ T → T ≤ F .mostTasks → P ≤ F .mostPromises → P + 2 * T ≤ n → (xs : List Step) → Demand3 F n (run F n (fresh T P) xs)
+pub demand-3 : (F : Form) → Apart F → (n T P : ℕ) → 1 ≤ T → T ≤ F .mostTasks → P ≤ F .mostPromises → roomFor T P ≤ n → (xs : List Step) → Demand3 F n (run F n (fresh T P) xs)
 demand-3 F apart n T P some most most′ room xs = demand-3-of F apart n (run F n (fresh T P) xs) (kept.good-run F apart n (fresh T P) xs (kept.fresh-good T P some F apart n most most′ room))
 
 -- ---- REQUEST 3, "Blamed is not set"
@@ -325,7 +334,7 @@ module _ (F : Form) (apart : Apart F) (n : ℕ) (s : Tables) (t p k : ℕ) (alar
   pub the-ring-stands : Stands later t p ring
   the-ring-stands = rings.alarm-stays F apart n s t p k alarm xs
 
-  in-bounds : inBounds F (length (later .tasks)) (length (later .promises)) n ≡ true
+  in-bounds : inBounds F n later ≡ true
   in-bounds = rings.alarm-bounds F apart n s t p k alarm xs
 
   -- "An outsider's get whose chain runs into the ring counts as a wait entered": it answers waits, with the number of all tasks, and from then on the outsider waits too

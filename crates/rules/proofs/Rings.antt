@@ -1,7 +1,7 @@
 -- Request 4, "Show that the alarm is real", over the rules without the soundness test, in any tables. A crowd in which each task waits on a promise that another of
 -- the crowd owns stays so after any steps: none of them may act, and nobody else owns what they await. The tasks of a ring are such a crowd, and so is everybody whose
 -- chain runs into it. Assumes nothing.
-use mathlib.Core.Path.{_≡_, refl, sym, ap, subst, subst₂, _∙_}
+use mathlib.Core.Path.{_≡_, refl, sym, ap, subst, _∙_}
 use mathlib.Core.Logic.{_⊎_, inl, inr, _≢_}
 use mathlib.Core.List.{List, [], _∷_}
 use mathlib.Core.Bool.{Bool, true, false}
@@ -10,15 +10,16 @@ use native.Mathlib.Omega.{arith}
 use borrow.Author.Tests.{eqb-false, ne-eqb}
 use lib.ListN.{length, length-set}
 use lib.Seq.{getD-set-same, getD-set-other}
-use Rattle.words.specs.Words.{Form, inBounds, readyWord, waitsOn, unmadeWord, firstOwned, ownedBy}
+use Rattle.words.specs.Words.{Form, readyWord, waitsOn, unmadeWord, firstOwned, ownedBy}
 use Rattle.words.proofs.ListLaws.{within-table}
-use Rattle.rules.specs.Tables.{Tables, taskAt, promiseAt}
+use Rattle.rules.specs.Tables.{Tables, taskAt, promiseAt, inBounds}
 use Rattle.rules.specs.Chains.{WaitsFor, Chain, here, link, view, waits}
 use Rattle.rules.specs.Sound.{Sound, to, hop, soundTest}
 use Rattle.rules.specs.Refusals.{first, boundsRows, getRows}
 use Rattle.rules.specs.Steps.{Step, step-get, actor, outcome, withWait, astray, walk, followed, got, guarded, raw, step, untested, ran}
 use Rattle.rules.specs.Demands.{Apart, hadWaited, Pair, this-pair, later-pair, LeadsTo, at-last, and-then, Stands, RunsInto, of-the-ring, behind-it}
 use Rattle.rules.specs.declared.Answer.the-variants.{Waits, Cycle, Refused}
+use Rattle.rules.proofs.BoundsLaws.{AsLong, as-long, as-long-too, long-tasks, inBounds-kept}
 use Rattle.rules.proofs.Accepted.{Did, did-raw, lengths-kept, did-moves, got-owned}
 use Rattle.rules.proofs.Alarms.{followed-stands, alarm-means}
 use Rattle.rules.proofs.GuardLaws.{guarded-is, guarded-none}
@@ -35,18 +36,16 @@ unfolding first
 untested-sound F n s sd x = rw (sound-soundTest (F .base) s sd)
 
 -- what they do not refuse by 1 is within its bounds
-bounds-past : (F : Form) (n : ℕ) (s : Tables) → first (boundsRows F n s) ≡ 0 → inBounds F (length (s .tasks)) (length (s .promises)) n ≡ true
+bounds-past : (F : Form) (n : ℕ) (s : Tables) → first (boundsRows F n s) ≡ 0 → inBounds F n s ≡ true
 bounds-past F n s e = not-is-false _ (first-past 1 _ [] (eqb-false 1 0 refl) e .0)
 
 -- and they leave the tables as long as they were
 ran-lengths : (F : Form) (n : ℕ) (s : Tables) (xs : List Step)
-    → (length (ran (untested F n) s xs .tasks) ≡ length (s .tasks)) × (length (ran (untested F n) s xs .promises) ≡ length (s .promises))
-ran-lengths F n s [] = (refl, refl)
+    → AsLong (ran (untested F n) s xs) s
+ran-lengths F n s [] = as-long s
 ran-lengths F n s (x ∷ xs) =
     let s′ = untested F n s x .after in
-    let (a, b) = lengths-kept F s x (first (boundsRows F n s)) in
-    let (c, d) = ran-lengths F n s′ xs in
-    (c ∙ a, d ∙ b)
+    as-long-too (ran-lengths F n s′ xs) (lengths-kept F s x (first (boundsRows F n s)))
 
 -- ---- a crowd whose tasks wait for one another
 
@@ -199,7 +198,7 @@ module _ (s : Tables) (t p : ℕ) (ws : List ℕ) (ring : Stands s t p ws) where
         stuck-run (λ x. (x ≡ v) ⊎ RunsInto s ws x) F n (withWait s v q) (joined (RunsInto s ws) s into-stuck v q u r o i) xs v (inl refl) .0
         ∙ getD-set-same (s .tasks) v (waitsOn q) 0 b
 
-    module _ (apart : Apart F) (bounds : inBounds F (length (s .tasks)) (length (s .promises)) n ≡ true) where
+    module _ (apart : Apart F) (bounds : inBounds F n s ≡ true) where
       -- a get whose owners run into the ring is entered
       pub outsider-entered : (v q u : ℕ) → taskAt s v ≡ readyWord → promiseAt s q ≡ ownedBy u → RunsInto s ws u
           → untested F n s (step-get v q) ≡ outcome (Waits (length (s .tasks))) (withWait s v q) []
@@ -241,8 +240,7 @@ module _ (F : Form) (apart : Apart F) (n : ℕ) (s : Tables) (t p k : ℕ) (alar
   alarm-real xs u q i = pair-of (alarm-stays xs) i .waits
 
   -- the tables stay as long as they were
-  pub alarm-bounds : (xs : List Step) → inBounds F (length (hadWaited F n s t p xs .tasks)) (length (hadWaited F n s t p xs .promises)) n ≡ true
+  pub alarm-bounds : (xs : List Step) → inBounds F n (hadWaited F n s t p xs) ≡ true
   alarm-bounds xs =
       let g = accepted-good F apart n s (step-get t p) (Cycle k) (λ r. elim r [ ]) alarm in
-      let (a, b) = ran-lengths F n (withWait s t p) xs in
-      subst₂ (λ (i j : ℕ). inBounds F i j n ≡ true) (sym (a ∙ length-set (s .tasks) t (waitsOn p))) (sym b) (g .bounds)
+      inBounds-kept F n (as-long-too (ran-lengths F n (withWait s t p) xs) (long-tasks s (length-set (s .tasks) t (waitsOn p)))) (g .bounds)

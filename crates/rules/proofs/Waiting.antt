@@ -43,14 +43,14 @@ one-chain B s sd v p e =
 module _ (B : ℕ) (s s′ : Tables) (t : ℕ) {v : ℕ} {l : List ℕ} (c : Chain (waits s) v l) (far : chainEnd v l ≢ t) where
   chain-by : Took B s t s′ → Chain (waits s′) v l
   chain-by (stayed e) = subst (λ (x : Tables). Chain (waits x) v l) (sym e) c
-  chain-by (moved e f st) =
-      subst (λ (x : ℕ). Chain (graph x (view s′)) v l) (sym e)
+  chain-by (moved len st) =
+      subst (λ (x : ℕ). Chain (graph x (view s′)) v l) (sym (len .tasks))
       (chain-stays (waits s) (graph (length (s .tasks)) (view s′)) t (det (length (s .tasks)) (view s)) (frame (length (s .tasks)) (length (s .promises)) B (view s) (view s′) t (st .moves)) c far)
 
   -- the word of a task on the chain, and of what it awaits
   words-by : Took B s t s′ → (y : ℕ) → In y (v ∷ l) → (taskAt s′ y ≡ taskAt s y) × ((p : ℕ) → taskAt s y ≡ waitsOn p → promiseAt s′ p ≡ promiseAt s p)
   words-by (stayed e) y i = (ap (λ (x : Tables). taskAt x y) e, λ p w. ap (λ (x : Tables). promiseAt x p) e)
-  words-by (moved e f st) y i = go (on-chain (waits s) c i)
+  words-by (moved len st) y i = go (on-chain (waits s) c i)
     where
       fr : Frame (waits s) (graph (length (s .tasks)) (view s′)) t
       fr = frame (length (s .tasks)) (length (s .promises)) B (view s) (view s′) t (st .moves)

@@ -20,9 +20,9 @@ use mathlib.Core.List.{List, [], _∷_, _++_}
 use mathlib.Core.Bool.{true, false}
 use Prim.Native.Nat.{ℕ, suc, _+_, _≤_, _<_}
 use lib.ListN.{length, take}
-use Rattle.words.specs.Words.{Form, inBounds, readyWord, endedWord, waitsOn, setWord, firstOwned, ownedBy, blamedOn}
+use Rattle.words.specs.Words.{Form, readyWord, endedWord, waitsOn, setWord, firstOwned, ownedBy, blamedOn}
 use Rattle.words.specs.Lists.{In, Rising}
-use Rattle.rules.specs.Tables.{Tables, taskAt, promiseAt, liveTasks}
+use Rattle.rules.specs.Tables.{Tables, inBounds, taskAt, promiseAt, liveTasks}
 use Rattle.rules.specs.Chains.{Chain, chainEnd, waits}
 use Rattle.rules.specs.Sound.{Live, Sound}
 use Rattle.rules.specs.Answers.{refusedAtWith}
@@ -35,7 +35,7 @@ abbrev pub Apart : Form → Type 0
 Apart F = firstOwned + F .mostTasks ≤ F .base
 
 pub record Good (F : Form) (n : ℕ) (s : Tables) : Type 0 where
-  pub bounds : inBounds F (length (s .tasks)) (length (s .promises)) n ≡ true
+  pub bounds : inBounds F n s ≡ true
   pub sound : Sound (F .base) s
 
 -- ---- demand 1: "Bad input is refused by number in a fixed order; a refusal changes no table and no report"

@@ -17,9 +17,9 @@ use mathlib.Core.List.{List, [], _∷_, _++_}
 use mathlib.Core.Bool.{Bool, cond, not}
 use lib.Dec.{eqb, leb, ltb}
 use lib.ListN.{length, getD}
-use Rattle.words.specs.Words.{Form, inBounds, unusedWord, unmadeWord, setWord, ownedBy}
+use Rattle.words.specs.Words.{Form, unusedWord, unmadeWord, setWord, ownedBy}
 use Rattle.words.specs.Lists.{allBelow}
-use Rattle.rules.specs.Tables.{Tables, live, waiting}
+use Rattle.rules.specs.Tables.{Tables, live, waiting, inBounds}
 use Rattle.rules.specs.Sound.{soundTest}
 
 abbrev pub Row : Type 0
@@ -35,7 +35,7 @@ earlier a b = cond (eqb a 0) b a
 
 abbrev pub boundsRows : Form → ℕ → Tables → List Row
 boundsRows F n s =
-    (1, not (inBounds F (length (s .tasks)) (length (s .promises)) n))  -- "T, P or report length is outside its bounds"
+    (1, not (inBounds F n s))  -- "T, P or report length is outside its bounds"
     ∷ []
 
 abbrev pub tableRows : Form → ℕ → Tables → List Row

@@ -3,7 +3,7 @@
 --
 --   freshRows F T P, freshRefusal F T P   refusal 1 by the sizes alone
 --   freshened F s                         the tables s, made fresh unless that is refused
---   Freshens F s r ts ps                  the number r and the tables ts and ps are those of making s fresh
+--   Freshens F s r s′                     the number r and the tables s′ are those of making s fresh
 -- Assumes nothing.
 use Prim.Native.Nat.{ℕ}
 use mathlib.Core.Path.{_≡_}
@@ -24,7 +24,6 @@ freshRefusal F T P = first (freshRows F T P)
 unfoldable pub freshened : Form → Tables → Tables
 freshened F s = cond (eqb (freshRefusal F (length (s .tasks)) (length (s .promises))) 0) (fresh (length (s .tasks)) (length (s .promises))) s
 
-pub record Freshens (F : Form) (s : Tables) (r : ℕ) (ts ps : List ℕ) : Type 0 where
+pub record Freshens (F : Form) (s : Tables) (r : ℕ) (s′ : Tables) : Type 0 where
   pub number : r ≡ freshRefusal F (length (s .tasks)) (length (s .promises))
-  pub tasks : ts ≡ freshened F s .tasks
-  pub promises : ps ≡ freshened F s .promises
+  pub after : s′ ≡ freshened F s

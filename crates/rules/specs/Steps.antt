@@ -21,7 +21,7 @@ use lib.Dec.{eqb, leb, ltb}
 use lib.ListN.{length, getD, set}
 use Rattle.words.specs.Words.{Form, readyWord, endedWord, waitsOn, firstWait, setWord, ownedBy, firstOwned, blamedOn}
 use Rattle.words.specs.Lists.{is, places, replaced}
-use Rattle.rules.specs.Tables.{Tables, tables, promiseAt, waiting, awaitedBy, ownerOf, blamedTask}
+use Rattle.rules.specs.Tables.{Tables, withTasks, withPromises, withWords, promiseAt, waiting, awaitedBy, ownerOf, blamedTask}
 use Rattle.rules.specs.Sound.{Hop, ready, lost, to, hop}
 use Rattle.rules.specs.Answers.{byNumber, refusedWith, refusedAtWith}
 use Rattle.rules.specs.Refusals.{Row, first, boundsRows, tableRows, actorRows, childRows, newRows, getRows, ownRows, entryRefusal, firstBad}
@@ -53,15 +53,15 @@ outcome a s ws = record { answer = a; after = s; words = ws }
 
 -- "p becomes owned by t"
 abbrev pub withMade : Tables → ℕ → ℕ → Tables
-withMade s t p = tables (s .tasks) (set (s .promises) p (ownedBy t))
+withMade s t p = withPromises s (set (s .promises) p (ownedBy t))
 
 -- "p becomes set and every task that waits on p becomes ready"
 abbrev pub withSet : Tables → ℕ → Tables
-withSet s p = tables (replaced (is (waitsOn p)) readyWord (s .tasks)) (set (s .promises) p setWord)
+withSet s p = withWords s (replaced (is (waitsOn p)) readyWord (s .tasks)) (set (s .promises) p setWord)
 
 -- "t now waits on p"
 abbrev pub withWait : Tables → ℕ → ℕ → Tables
-withWait s t p = tables (set (s .tasks) t (waitsOn p)) (s .promises)
+withWait s t p = withTasks s (set (s .tasks) t (waitsOn p))
 
 -- "every listed promise passes from t to c"
 unfoldable pub given : ℕ → List ℕ → List ℕ → List ℕ
@@ -70,7 +70,7 @@ given w (q ∷ list) ps = given w list (set ps q w)
 
 -- "child c becomes ready and every listed promise passes from t to c"
 abbrev pub withStarted : Tables → ℕ → List ℕ → Tables
-withStarted s c list = tables (set (s .tasks) c readyWord) (given (ownedBy c) list (s .promises))
+withStarted s c list = withWords s (set (s .tasks) c readyWord) (given (ownedBy c) list (s .promises))
 
 -- a task with the word w waits on a promise whose word is v
 unfoldable pub awaits : List ℕ → ℕ → ℕ → Bool
@@ -79,7 +79,7 @@ awaits ps v w = waiting w && eqb (getD ps (w - firstWait) 0) v
 -- "t becomes ended. Each promise it owns becomes blamed on t, awaited or not (an omitted set). Each task that waits on one of these becomes ready."
 abbrev pub withEnded : ℕ → Tables → ℕ → Tables
 withEnded B s t =
-    tables (set (replaced (awaits (s .promises) (ownedBy t)) readyWord (s .tasks)) t endedWord) (replaced (is (ownedBy t)) (blamedOn B t) (s .promises))
+    withWords s (set (replaced (awaits (s .promises) (ownedBy t)) readyWord (s .tasks)) t endedWord) (replaced (is (ownedBy t)) (blamedOn B t) (s .promises))
 
 -- ---- following owners
 
@@ -113,6 +113,10 @@ unfoldable pub followed : Tables → ℕ → ℕ → Found → Outcome
 followed s t p (back k) = outcome (Cycle k) s (pairs k s t p)
 followed s t p (free k) = outcome (Waits k) (withWait s t p) []
 followed s t p astray = outcome (Waits (length (s .tasks))) (withWait s t p) []
+
+-- from p, which is owned
+abbrev pub askedOf : Tables → ℕ → ℕ → Outcome
+askedOf s t p = followed s t p (walk (length (s .tasks)) s t (ownerOf s p) 1)
 
 -- "if p is set, answer value. If p is blamed on b, answer blamed b. Otherwise follow owners from p"
 unfoldable pub got : ℕ → Tables → ℕ → ℕ → ℕ → Outcome

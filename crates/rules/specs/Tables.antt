@@ -1,6 +1,9 @@
 -- The two tables of a session. Paper: 01, "Tables and words".
 --
 --   Tables, tables ts ps      the task table and the promise table, as lists of words
+--   withTasks s ts, withPromises s ps, withWords s ts ps   the tables s with other words
+--   partOf T P s, putBack T P s s′   the first T and P words of the tables s; these words replaced by s′
+--   sizesFit F s, inBounds F n s   the lengths of the tables are within their bounds; and so is the report's length n
 --   taskAt s t, promiseAt s p the word of task t, of promise p; 0 past the table's end
 --   live w, waiting w         a task with the word w is ready or waits; it waits
 --   closed B w                a promise with the word w is set or blamed
@@ -10,11 +13,11 @@
 --   fresh T P                 fresh tables
 -- Assumes nothing.
 use Prim.Native.Nat.{ℕ, _-_}
-use mathlib.Core.List.{List}
-use mathlib.Core.Bool.{Bool, _||_}
+use mathlib.Core.List.{List, _++_}
+use mathlib.Core.Bool.{Bool, _&&_, _||_}
 use lib.Dec.{eqb, leb}
-use lib.ListN.{getD, set, replicate}
-use Rattle.words.specs.Words.{readyWord, firstWait, setWord, firstOwned}
+use lib.ListN.{length, getD, set, replicate, take, drop}
+use Rattle.words.specs.Words.{Form, sizesInBounds, roomFor, readyWord, firstWait, setWord, firstOwned}
 use Rattle.words.specs.Lists.{count}
 
 -- "The caller lends a task table of T words, a promise table of P words"
@@ -24,6 +27,31 @@ pub record Tables : Type 0 where
 
 abbrev pub tables : List ℕ → List ℕ → Tables
 tables ts ps = record { tasks = ts; promises = ps }
+
+-- the tables s, with other words
+abbrev pub withTasks : Tables → List ℕ → Tables
+withTasks s ts = tables ts (s .promises)
+
+abbrev pub withPromises : Tables → List ℕ → Tables
+withPromises s ps = tables (s .tasks) ps
+
+abbrev pub withWords : Tables → List ℕ → List ℕ → Tables
+withWords s ts ps = tables ts ps
+
+-- "a session uses the first T and first P words" of the lent tables s; and these words replaced by those of s′
+abbrev pub partOf : ℕ → ℕ → Tables → Tables
+partOf T P s = tables (take T (s .tasks)) (take P (s .promises))
+
+abbrev pub putBack : ℕ → ℕ → Tables → Tables → Tables
+putBack T P s s′ = tables (s′ .tasks ++ drop T (s .tasks)) (s′ .promises ++ drop P (s .promises))
+
+-- "a task table of T words (1 to 64), a promise table of P words (0 to 256)"
+unfoldable pub sizesFit : Form → Tables → Bool
+sizesFit F s = sizesInBounds F (length (s .tasks)) (length (s .promises))
+
+-- "and a report of at least P + 2T words": the one test of all lengths
+unfoldable pub inBounds : Form → ℕ → Tables → Bool
+inBounds F n s = sizesFit F s && leb (roomFor (length (s .tasks)) (length (s .promises))) n
 
 -- "Tasks are numbered 0 to T-1, promises 0 to P-1"
 abbrev pub taskAt : Tables → ℕ → ℕ

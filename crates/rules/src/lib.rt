@@ -18,3 +18,19 @@ pub enum Answer {
     RefusedBlamed(u16),
     RefusedBlamedAt { place: u16, blamed: u16 },
 }
+
+// A value of an answer, and how many words of the report follow it; or none, of zeros.
+pub struct Part {
+    pub told: bool,
+    pub value: u16,
+    pub words: u32,
+}
+
+// The layout of an answer: whether it refuses, its number, and its values. All forms of an answer are read off it.
+pub struct Layout {
+    pub refuses: bool,
+    pub number: u16,
+    pub first: Part,
+    pub second: Part,
+    pub third: Part,
+}

@@ -17,15 +17,16 @@ use Rattle.gather.specs.declared.Numbering.{Numbering}
 use Rattle.gather.specs.declared.Numbering.the-variants as N
 use Rattle.sessions.specs.declared.Session.{Session}
 use Rattle.lines.specs.declared.Entered.{Entered}
+use Rattle.rules.specs.Tables.{Tables}
 use Rattle.lines.specs.Lines.{Entry, Enters, heldLine, replyOf}
 use Rattle.lines.proofs.LineLaws.{entry-within}
 use Rattle.serving.specs.declared.Served.{Served}
 use Rattle.serving.specs.Serving.{fullText, answeredTurn, wentOn, stopped, brought, numbered, turnOf, Serves}
 
 -- what was entered is what was answered
-pub serves-entered : (x : List ℕ) (n next : ℕ) {e : Entry} {r : Entered} {q : Served} {ts ps rs out : List ℕ} → Enters e r ts ps rs out
+pub serves-entered : (x : List ℕ) (n next : ℕ) {e : Entry} {r : Entered} {q : Served} {st : Tables} {rs out : List ℕ} → Enters e r st rs out
     → q .next ≡ next → q .have ≡ 0 → q .lines ≡ n → q .session ≡ r .session → q .bytes ≡ r .bytes → q .going ≡ true
-    → Serves (answeredTurn x n next e) q x ts ps rs out
+    → Serves (answeredTurn x n next e) q x st rs out
 serves-entered x n next e a b c d f g = record {
   next = a;
   have = b;
@@ -34,47 +35,46 @@ serves-entered x n next e a b c d f g = record {
   bytes = f ∙ e .bytes;
   going = g;
   line = refl;
-  tasks = e .tasks;
-  promises = e .promises;
+  after = e .after;
   report = e .report;
   answer = e .answer;
 }
 
-module _ (b : List ℕ) (from : ℕ) (x : List ℕ) (have lines : ℕ) (session : Session) (ts ps rs out : List ℕ) where
-  pub turn-full : numberAfter lines ≡ N.Full → turnOf b from x have lines session ts ps rs out ≡ stopped b from x have lines session ts ps rs out
+module _ (b : List ℕ) (from : ℕ) (x : List ℕ) (have lines : ℕ) (session : Session) (st : Tables) (rs out : List ℕ) where
+  pub turn-full : numberAfter lines ≡ N.Full → turnOf b from x have lines session st rs out ≡ stopped b from x have lines session st rs out
   unfolding turnOf numbered
   turn-full e = rw e
 
   -- each turn goes on in the block, and stays within it
-  turn-on : from < length b → (from < turnOf b from x have lines session ts ps rs out .next) × (turnOf b from x have lines session ts ps rs out .next ≤ length b)
+  turn-on : from < length b → (from < turnOf b from x have lines session st rs out .next) × (turnOf b from x have lines session st rs out .next ≤ length b)
   unfolding turnOf numbered brought gotOf
   turn-on h = go (numberAfter lines)
     where
       E : ℕ
       E = endFrom lineEnd b from
 
-      ends : (n k : ℕ) (t : Bool) → ltb E (length b) ≡ t → let r = brought b from x have lines session ts ps rs out n (cond t (G.Line k (E + 1)) (G.More k)) .next in (from < r) × (r ≤ length b)
+      ends : (n k : ℕ) (t : Bool) → ltb E (length b) ≡ t → let r = brought b from x have lines session st rs out n (cond t (G.Line k (E + 1)) (G.More k)) .next in (from < r) × (r ≤ length b)
       ends n k true e = (omega (arith, endFrom-from lineEnd b from), omega (arith, ltb-true E (length b) e))
       ends n k false e = (h, omega arith)
 
-      go : (m : Numbering) → let r = numbered b from x have lines session ts ps rs out m .next in (from < r) × (r ≤ length b)
+      go : (m : Numbering) → let r = numbered b from x have lines session st rs out m .next in (from < r) × (r ≤ length b)
       go (N.Line n) = ends n (counted (length x) (have + length (pieceOf b from))) (ltb E (length b)) refl
       go N.Full = (h, omega arith)
 
   -- what a turn writes fits into what was lent for it
-  turn-within : turnOf b from x have lines session ts ps rs out .bytes ≤ length out
+  turn-within : turnOf b from x have lines session st rs out .bytes ≤ length out
   unfolding turnOf numbered brought
   turn-within = go (numberAfter lines)
     where
-      brings : (n : ℕ) (r : Got) → brought b from x have lines session ts ps rs out n r .bytes ≤ length out
-      brings n (G.Line k next) = entry-within (heldLine (gatheredIn x have b from) k) n session ts ps rs out
+      brings : (n : ℕ) (r : Got) → brought b from x have lines session st rs out n r .bytes ≤ length out
+      brings n (G.Line k next) = entry-within (heldLine (gatheredIn x have b from) k) n session st rs out
       brings n (G.More k) = omega arith
 
-      go : (m : Numbering) → numbered b from x have lines session ts ps rs out m .bytes ≤ length out
+      go : (m : Numbering) → numbered b from x have lines session st rs out m .bytes ≤ length out
       go (N.Line n) = brings n (gotOf (length x) have b from)
       go N.Full = fitting-most fullText out
 
-  module _ {q : Served} {y ts′ ps′ rs′ out′ : List ℕ} (s : Serves (turnOf b from x have lines session ts ps rs out) q y ts′ ps′ rs′ out′) where
+  module _ {q : Served} {y : List ℕ} {st′ : Tables} {rs′ out′ : List ℕ} (s : Serves (turnOf b from x have lines session st rs out) q y st′ rs′ out′) where
     pub served-on : from < length b → (from < q .next) × (q .next ≤ length b)
     served-on h = let (l, k) = turn-on h in (rw (s .next) l, rw (s .next) k)
 
@@ -82,17 +82,17 @@ module _ (b : List ℕ) (from : ℕ) (x : List ℕ) (have lines : ℕ) (session 
     served-within = rw (s .bytes) turn-within
 
   module _ (n : ℕ) (e : numberAfter lines ≡ N.Line n) where
-    pub turn-more : (k : ℕ) → gotOf (length x) have b from ≡ G.More k → turnOf b from x have lines session ts ps rs out ≡ wentOn b from x have lines session ts ps rs out k
+    pub turn-more : (k : ℕ) → gotOf (length x) have b from ≡ G.More k → turnOf b from x have lines session st rs out ≡ wentOn b from x have lines session st rs out k
     unfolding turnOf numbered brought
     turn-more k g = rw (e, g)
 
     pub turn-line : (k next : ℕ) → gotOf (length x) have b from ≡ G.Line k next
-        → turnOf b from x have lines session ts ps rs out ≡ answeredTurn (gatheredIn x have b from) n next (replyOf (gatheredIn x have b from) k n session ts ps rs out)
+        → turnOf b from x have lines session st rs out ≡ answeredTurn (gatheredIn x have b from) n next (replyOf (gatheredIn x have b from) k n session st rs out)
     unfolding turnOf numbered brought
     turn-line k next g = rw (e, g)
 
-    pub serves-line : {y : List ℕ} {got : Got} {k next : ℕ} {q : Served} {ts′ ps′ rs′ out′ : List ℕ} → Gathered x have b from y got → got ≡ G.Line k next
-        → Serves (answeredTurn y n next (replyOf y k n session ts ps rs out)) q y ts′ ps′ rs′ out′ → Serves (turnOf b from x have lines session ts ps rs out) q y ts′ ps′ rs′ out′
-    serves-line {y} {got} {k} {next} {q} {ts′} {ps′} {rs′} {out′} g h s =
+    pub serves-line : {y : List ℕ} {got : Got} {k next : ℕ} {q : Served} {st′ : Tables} {rs′ out′ : List ℕ} → Gathered x have b from y got → got ≡ G.Line k next
+        → Serves (answeredTurn y n next (replyOf y k n session st rs out)) q y st′ rs′ out′ → Serves (turnOf b from x have lines session st rs out) q y st′ rs′ out′
+    serves-line {y} {got} {k} {next} {q} {st′} {rs′} {out′} g h s =
         rw (turn-line k next (sym (g .answer) ∙ h))
-        (subst (λ (z : List ℕ). Serves (answeredTurn z n next (replyOf z k n session ts ps rs out)) q y ts′ ps′ rs′ out′) (g .bytes) s)
+        (subst (λ (z : List ℕ). Serves (answeredTurn z n next (replyOf z k n session st rs out)) q y st′ rs′ out′) (g .bytes) s)

@@ -25,6 +25,7 @@ use Rattle.gather.specs.declared.Numbering.the-variants as N
 use Rattle.gather.proofs.Theorems.{holds-length, holds-none, holds-piece, holds-whole, holds-long}
 use Rattle.sessions.specs.declared.Session.{Session}
 use Rattle.sessions.specs.Sessions.{Deed, deedOf}
+use Rattle.rules.specs.Tables.{Tables}
 use Rattle.lines.specs.Lines.{lentWell, entered, notEntered, Entry, entryOf, heldLine, replyOf}
 use Rattle.lines.proofs.LineLaws.{heldLine-within, heldLine-long, long-lines-alike}
 use Rattle.serving.specs.declared.Served.{Served}
@@ -35,42 +36,41 @@ use Rattle.serving.proofs.ServingLaws.{turn-full, turn-more, turn-line}
 -- ---- a line that was gathered
 
 -- A GATHERED LINE IS ANSWERED AS THE WHOLE LINE IS, however long it is: o is what the buffer held at first
-pub held-is-entered : (t o x : List ℕ) (k : ℕ) → length o ≡ longestLine → length x ≡ longestLine → Holds t o x k → (n : ℕ) (session : Session) (ts ps rs out : List ℕ)
-    → replyOf x k n session ts ps rs out ≡ entryOf t n session ts ps rs out
-held-is-entered t o x k e f h n session ts ps rs out = go (decLt (length o) k)
+pub held-is-entered : (t o x : List ℕ) (k : ℕ) → length o ≡ longestLine → length x ≡ longestLine → Holds t o x k → (n : ℕ) (session : Session) (st : Tables) (rs out : List ℕ)
+    → replyOf x k n session st rs out ≡ entryOf t n session st rs out
+held-is-entered t o x k e f h n session st rs out = go (decLt (length o) k)
   where
-    go : Dec (length o < k) → replyOf x k n session ts ps rs out ≡ entryOf t n session ts ps rs out
+    go : Dec (length o < k) → replyOf x k n session st rs out ≡ entryOf t n session st rs out
     go (no l) =
         let w = holds-whole t o x k h (omega arith) in
-        ap (λ (s : List ℕ). entryOf s n session ts ps rs out) (heldLine-within x k (omega (arith, e, f)) ∙ w .1)
-    go (yes l) = long-lines-alike (heldLine x k) t (heldLine-long x k (omega (arith, e, f))) (omega (arith, e, holds-long t o x k h l)) n session ts ps rs out
+        ap (λ (s : List ℕ). entryOf s n session st rs out) (heldLine-within x k (omega (arith, e, f)) ∙ w .1)
+    go (yes l) = long-lines-alike (heldLine x k) t (heldLine-long x k (omega (arith, e, f))) (omega (arith, e, holds-long t o x k h l)) n session st rs out
 
 -- the answer does not depend on the room for it, where there is enough
 record Alike (e f : Entry) : Type 0 where
   session : e .session ≡ f .session
-  tasks : e .tasks ≡ f .tasks
-  promises : e .promises ≡ f .promises
+  after : e .after ≡ f .after
   report : e .report ≡ f .report
   text : take (e .bytes) (e .out) ≡ take (f .bytes) (f .out)
 
-lent-alike : (n : ℕ) (session : Session) (t p r a b : ℕ) → longestAnswer ≤ a → longestAnswer ≤ b → lentWell n session t p r a ≡ lentWell n session t p r b
+lent-alike : (n : ℕ) (session : Session) (st : Tables) (r a b : ℕ) → longestAnswer ≤ a → longestAnswer ≤ b → lentWell n session st r a ≡ lentWell n session st r b
 unfolding lentWell
-lent-alike n session t p r a b h k = rw (le-leb longestAnswer a h, le-leb longestAnswer b k)
+lent-alike n session st r a b h k = rw (le-leb longestAnswer a h, le-leb longestAnswer b k)
 
-module _ (line : List ℕ) (n : ℕ) (session : Session) (ts ps rs out out₂ : List ℕ) where
-  entries-alike : longestAnswer ≤ length out → longestAnswer ≤ length out₂ → Alike (entryOf line n session ts ps rs out) (entryOf line n session ts ps rs out₂)
+module _ (line : List ℕ) (n : ℕ) (session : Session) (st : Tables) (rs out out₂ : List ℕ) where
+  entries-alike : longestAnswer ≤ length out → longestAnswer ≤ length out₂ → Alike (entryOf line n session st rs out) (entryOf line n session st rs out₂)
   unfolding entryOf
-  entries-alike h k = rw (lent-alike n session (length ts) (length ps) (length rs) (length out) (length out₂) h k) (go (lentWell n session (length ts) (length ps) (length rs) (length out₂)))
+  entries-alike h k = rw (lent-alike n session st (length rs) (length out) (length out₂) h k) (go (lentWell n session st (length rs) (length out₂)))
     where
       d : Deed
-      d = deedOf (formOf line) (entriesOf line) session ts ps (length rs)
+      d = deedOf (formOf line) (entriesOf line) session st (length rs)
 
       text : (t x y : List ℕ) → take (length t) (over t x) ≡ take (length t) (over t y)
       text t x y = rw (over-is t x, over-is t y) (take-append-seam t (drop (length t) x) ∙ sym (take-append-seam t (drop (length t) y)))
 
-      go : (b : Bool) → Alike (cond b (entered n rs out d) (notEntered session ts ps rs out)) (cond b (entered n rs out₂ d) (notEntered session ts ps rs out₂))
-      go true = record { session = refl; tasks = refl; promises = refl; report = refl; text = text (answerText n (d .answer) (over (d .words) rs)) out out₂ }
-      go false = record { session = refl; tasks = refl; promises = refl; report = refl; text = refl }
+      go : (b : Bool) → Alike (cond b (entered n rs out d) (notEntered session st rs out)) (cond b (entered n rs out₂ d) (notEntered session st rs out₂))
+      go true = record { session = refl; after = refl; report = refl; text = text (answerText n (d .answer) (over (d .words) rs)) out out₂ }
+      go false = record { session = refl; after = refl; report = refl; text = refl }
 
 -- ---- one by one
 
@@ -96,12 +96,12 @@ fed-stopped d (b ∷ s) e = ap (λ (f : Desk). feed f s) (rw e) ∙ fed-stopped 
 
 begun-none : (d : Desk) → begunWith d [] ≡ d
 begun-none d =
-    ap (λ (l : List ℕ). record { lines = d .lines; session = d .session; tasks = d .tasks; promises = d .promises; report = d .report; begun = l; going = d .going; said = d .said })
+    ap (λ (l : List ℕ). record { lines = d .lines; session = d .session; after = d .after; report = d .report; begun = l; going = d .going; said = d .said })
     (append-nil (d .begun))
 
 begun-more : (d : Desk) (s t : List ℕ) → begunWith (begunWith d s) t ≡ begunWith d (s ++ t)
 begun-more d s t =
-    ap (λ (l : List ℕ). record { lines = d .lines; session = d .session; tasks = d .tasks; promises = d .promises; report = d .report; begun = l; going = d .going; said = d .said })
+    ap (λ (l : List ℕ). record { lines = d .lines; session = d .session; after = d .after; report = d .report; begun = l; going = d .going; said = d .said })
     (append-assoc (d .begun) s t)
 
 fed-full : (d : Desk) (b : ℕ) → d .going ≡ true → numberAfter (d .lines) ≡ N.Full → fed d b ≡ full d
@@ -158,18 +158,17 @@ got-line L have b from l = rw (lt-ltb (endFrom lineEnd b from) (length b) l)
 
 module _ (d : Desk) (b : List ℕ) (from : ℕ) (x : List ℕ) (have : ℕ) (out : List ℕ) where
   abbrev T : Turn
-  T = turnOf b from x have (d .lines) (d .session) (d .tasks) (d .promises) (d .report) out
+  T = turnOf b from x have (d .lines) (d .session) (d .after) (d .report) out
 
   module _ (r : longestAnswer ≤ length out) (h : from < length b) (g : d .going ≡ true) (w : Buffered d x have) where
     takes-full : numberAfter (d .lines) ≡ N.Full → Takes d b from T (full d)
-    takes-full e = subst (λ (t : Turn). Takes d b from t (full d)) (sym (turn-full b from x have (d .lines) (d .session) (d .tasks) (d .promises) (d .report) out e)) (record {
+    takes-full e = subst (λ (t : Turn). Takes d b from t (full d)) (sym (turn-full b from x have (d .lines) (d .session) (d .after) (d .report) out e)) (record {
       bytes = bytes;
       said = ap (λ (t : List ℕ). d .said ++ t) (sym text);
       buffer = record { first = w .first; room = w .room; held = w .held };
       lines = refl;
       session = refl;
-      tasks = refl;
-      promises = refl;
+      after = refl;
       report = refl;
       going = refl;
     })
@@ -195,14 +194,13 @@ module _ (d : Desk) (b : List ℕ) (from : ℕ) (x : List ℕ) (have : ℕ) (out
 
       takes-more : length b ≤ endFrom lineEnd b from → Takes d b from T (begunWith d (pieceOf b from))
       unfolding endFrom pieceOf
-      takes-more l = subst (λ (t : Turn). Takes d b from t (begunWith d (pieceOf b from))) (sym (turn-more b from x have (d .lines) (d .session) (d .tasks) (d .promises) (d .report) out n e (counted (length x) (have + length (pieceOf b from))) got)) (record {
+      takes-more l = subst (λ (t : Turn). Takes d b from t (begunWith d (pieceOf b from))) (sym (turn-more b from x have (d .lines) (d .session) (d .after) (d .report) out n e (counted (length x) (have + length (pieceOf b from))) got)) (record {
         bytes = more-fed n (drop from b) d g e all ∙ ap (λ (s : List ℕ). begunWith d s) (sym whole) ∙ sym (feed-none (begunWith d (pieceOf b from))) ∙ ap (λ (s : List ℕ). feed (begunWith d (pieceOf b from)) s) (sym past);
         said = sym (append-nil (d .said));
         buffer = record { first = w .first; room = w .room; held = held-on };
         lines = refl;
         session = refl;
-        tasks = refl;
-        promises = refl;
+        after = refl;
         report = refl;
         going = g;
       })
@@ -223,24 +221,23 @@ module _ (d : Desk) (b : List ℕ) (from : ℕ) (x : List ℕ) (have : ℕ) (out
       unfolding endFrom pieceOf
       takes-line l =
           subst (λ (t : Turn). Takes d b from t (answered (begunWith d (pieceOf b from)) n))
-          (sym (turn-line b from x have (d .lines) (d .session) (d .tasks) (d .promises) (d .report) out n e (counted (length x) (have + length (pieceOf b from))) (endFrom lineEnd b from + 1) (got-line (length x) have b from l)))
+          (sym (turn-line b from x have (d .lines) (d .session) (d .after) (d .report) out n e (counted (length x) (have + length (pieceOf b from))) (endFrom lineEnd b from + 1) (got-line (length x) have b from l)))
           (rw reply (record {
             bytes = line-fed n (drop from b) d g e (omega (arith, l, length-drop from b)) ∙ ap (λ (s : List ℕ). feed (answered (begunWith d (pieceOf b from)) n) s) rest;
             said = ap (λ (s : List ℕ). d .said ++ s) (alike .text);
             buffer = record { first = gatheredIn x have b from; room = holds-length held-on ∙ w .room; held = holds-none (gatheredIn x have b from) };
             lines = refl;
             session = alike .session;
-            tasks = alike .tasks;
-            promises = alike .promises;
+            after = alike .after;
             report = alike .report;
             going = refl;
           }))
         where
-          reply : replyOf (gatheredIn x have b from) (counted (length x) (have + length (pieceOf b from))) n (d .session) (d .tasks) (d .promises) (d .report) out ≡ entryOf (d .begun ++ pieceOf b from) n (d .session) (d .tasks) (d .promises) (d .report) out
-          reply = held-is-entered (d .begun ++ pieceOf b from) (w .first) (gatheredIn x have b from) (counted (length x) (have + length (pieceOf b from))) (w .room) (holds-length held-on ∙ w .room) held-on n (d .session) (d .tasks) (d .promises) (d .report) out
+          reply : replyOf (gatheredIn x have b from) (counted (length x) (have + length (pieceOf b from))) n (d .session) (d .after) (d .report) out ≡ entryOf (d .begun ++ pieceOf b from) n (d .session) (d .after) (d .report) out
+          reply = held-is-entered (d .begun ++ pieceOf b from) (w .first) (gatheredIn x have b from) (counted (length x) (have + length (pieceOf b from))) (w .room) (holds-length held-on ∙ w .room) held-on n (d .session) (d .after) (d .report) out
 
-          alike : Alike (entryAt (begunWith d (pieceOf b from)) n) (entryOf (d .begun ++ pieceOf b from) n (d .session) (d .tasks) (d .promises) (d .report) out)
-          alike = entries-alike (d .begun ++ pieceOf b from) n (d .session) (d .tasks) (d .promises) (d .report) (replicate longestAnswer 0) out (omega (arith, length-replicate {A = ℕ} longestAnswer 0)) r
+          alike : Alike (entryAt (begunWith d (pieceOf b from)) n) (entryOf (d .begun ++ pieceOf b from) n (d .session) (d .after) (d .report) out)
+          alike = entries-alike (d .begun ++ pieceOf b from) n (d .session) (d .after) (d .report) (replicate longestAnswer 0) out (omega (arith, length-replicate {A = ℕ} longestAnswer 0)) r
 
           rest : drop (suc (runTo lineEnd (drop from b))) (drop from b) ≡ drop (endFrom lineEnd b from + 1) b
           rest =
@@ -271,8 +268,8 @@ last-is-last d x have w = go (length (d .begun)) (w .held .count)
 
 -- ---- 01, "How much each contract must say": any two outcomes that a contract allows coincide
 
-pub served-unique : {t : Turn} {p q : Served} {x x′ ts ts′ ps ps′ rs rs′ out out′ : List ℕ} → Serves t p x ts ps rs out → Serves t q x′ ts′ ps′ rs′ out′
-    → (p .next ≡ q .next) × (p .have ≡ q .have) × (p .lines ≡ q .lines) × (p .session ≡ q .session) × (p .bytes ≡ q .bytes) × (p .going ≡ q .going) × (x ≡ x′) × (ts ≡ ts′) × (ps ≡ ps′) × (rs ≡ rs′) × (out ≡ out′)
+pub served-unique : {t : Turn} {p q : Served} {s s′ : Tables} {x x′ rs rs′ out out′ : List ℕ} → Serves t p x s rs out → Serves t q x′ s′ rs′ out′
+    → (p .next ≡ q .next) × (p .have ≡ q .have) × (p .lines ≡ q .lines) × (p .session ≡ q .session) × (p .bytes ≡ q .bytes) × (p .going ≡ q .going) × (x ≡ x′) × (s ≡ s′) × (rs ≡ rs′) × (out ≡ out′)
 served-unique g h = (
   g .next ∙ sym (h .next),
   g .have ∙ sym (h .have),
@@ -281,8 +278,7 @@ served-unique g h = (
   g .bytes ∙ sym (h .bytes),
   g .going ∙ sym (h .going),
   g .line ∙ sym (h .line),
-  g .tasks ∙ sym (h .tasks),
-  g .promises ∙ sym (h .promises),
+  g .after ∙ sym (h .after),
   g .report ∙ sym (h .report),
   g .answer ∙ sym (h .answer),
 )

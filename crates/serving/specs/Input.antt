@@ -18,6 +18,7 @@ use mathlib.Core.List.{List, [], _∷_, _++_}
 use mathlib.Core.Bool.{Bool, true, false, cond}
 use lib.Dec.{eqb}
 use lib.ListN.{length, take, drop, replicate}
+use Rattle.rules.specs.Tables.{Tables, tables}
 use Rattle.forms.specs.Forms.{longestLine}
 use Rattle.answers.specs.AnswerText.{longestAnswer}
 use Rattle.fields.specs.Fields.{lineEnd}
@@ -33,23 +34,21 @@ use Rattle.serving.specs.Serving.{fullText, Turn}
 pub record Desk : Type 0 where
   pub lines : ℕ
   pub session : Session
-  pub tasks : List ℕ
-  pub promises : List ℕ
+  pub after : Tables
   pub report : List ℕ
   pub begun : List ℕ
   pub going : Bool
   pub said : List ℕ
 
 abbrev pub opening : Desk
-opening = record { lines = 0; session = Unopened; tasks = replicate 64 0; promises = replicate 256 0; report = replicate 384 0; begun = []; going = true; said = [] }
+opening = record { lines = 0; session = Unopened; after = tables (replicate 64 0) (replicate 256 0); report = replicate 384 0; begun = []; going = true; said = [] }
 
 -- the line that has begun has these bytes more
 abbrev pub begunWith : Desk → List ℕ → Desk
 begunWith d s = record {
   lines = d .lines;
   session = d .session;
-  tasks = d .tasks;
-  promises = d .promises;
+  after = d .after;
   report = d .report;
   begun = d .begun ++ s;
   going = d .going;
@@ -58,15 +57,14 @@ begunWith d s = record {
 
 -- line n is the one that has begun: what the line entry makes of it, with the shortest answer line that may be lent
 abbrev pub entryAt : Desk → ℕ → Entry
-entryAt d n = entryOf (d .begun) n (d .session) (d .tasks) (d .promises) (d .report) (replicate longestAnswer 0)
+entryAt d n = entryOf (d .begun) n (d .session) (d .after) (d .report) (replicate longestAnswer 0)
 
 -- "prints one answer line each"
 abbrev pub answered : Desk → ℕ → Desk
 answered d n = record {
   lines = n;
   session = entryAt d n .session;
-  tasks = entryAt d n .tasks;
-  promises = entryAt d n .promises;
+  after = entryAt d n .after;
   report = entryAt d n .report;
   begun = [];
   going = true;
@@ -78,8 +76,7 @@ abbrev pub full : Desk → Desk
 full d = record {
   lines = d .lines;
   session = d .session;
-  tasks = d .tasks;
-  promises = d .promises;
+  after = d .after;
   report = d .report;
   begun = d .begun;
   going = false;
@@ -117,7 +114,6 @@ pub record Takes (d : Desk) (b : List ℕ) (from : ℕ) (t : Turn) (d′ : Desk)
   pub buffer : Buffered d′ (t .line) (t .have)
   pub lines : d′ .lines ≡ t .lines
   pub session : d′ .session ≡ t .session
-  pub tasks : d′ .tasks ≡ t .tasks
-  pub promises : d′ .promises ≡ t .promises
+  pub after : d′ .after ≡ t .after
   pub report : d′ .report ≡ t .report
   pub going : d′ .going ≡ t .going

@@ -2,7 +2,7 @@
 --
 --   fullText              what is said at the millionth line
 --   Turn                  everything that there is after a piece of a block
---   turnOf b from x k n session ts ps rs out
+--   turnOf b from x k n session s rs out
 --                         the turn of the block b from `from` on, where the line buffer x has gathered k bytes of a line, and n lines were answered
 --   Serves ..             a call answered and left these
 -- Input.antt says the same byte by byte, and Theorems.antt that they agree.
@@ -13,6 +13,7 @@ use mathlib.Core.List.{List, [], _∷_}
 use mathlib.Core.Bool.{Bool, true, false}
 use lib.ListN.{length}
 use Rattle.words.specs.Lists.{over}
+use Rattle.rules.specs.Tables.{Tables}
 use Rattle.buffers.specs.Buffers.{fitting}
 use Rattle.gather.specs.Gather.{gatheredIn, gotOf, numberAfter}
 use Rattle.gather.specs.declared.Got.{Got}
@@ -35,8 +36,7 @@ pub record Turn : Type 0 where
   pub bytes : ℕ
   pub going : Bool
   pub line : List ℕ
-  pub tasks : List ℕ
-  pub promises : List ℕ
+  pub after : Tables
   pub report : List ℕ
   pub out : List ℕ
 
@@ -50,13 +50,12 @@ answeredTurn x n next e = record {
   bytes = e .bytes;
   going = true;
   line = x;
-  tasks = e .tasks;
-  promises = e .promises;
+  after = e .after;
   report = e .report;
   out = e .out;
 }
 
-module _ (b : List ℕ) (from : ℕ) (x : List ℕ) (have lines : ℕ) (session : Session) (ts ps rs out : List ℕ) where
+module _ (b : List ℕ) (from : ℕ) (x : List ℕ) (have lines : ℕ) (session : Session) (s : Tables) (rs out : List ℕ) where
   -- the block ended, and the line goes on in the next one
   abbrev pub wentOn : ℕ → Turn
   wentOn k = record {
@@ -67,8 +66,7 @@ module _ (b : List ℕ) (from : ℕ) (x : List ℕ) (have lines : ℕ) (session 
     bytes = 0;
     going = true;
     line = gatheredIn x have b from;
-    tasks = ts;
-    promises = ps;
+    after = s;
     report = rs;
     out = out;
   }
@@ -82,15 +80,14 @@ module _ (b : List ℕ) (from : ℕ) (x : List ℕ) (have lines : ℕ) (session 
     bytes = length (fitting fullText out);
     going = false;
     line = x;
-    tasks = ts;
-    promises = ps;
+    after = s;
     report = rs;
     out = over (fitting fullText out) out;
   }
 
   -- what the block brings to line n
   unfoldable pub brought : ℕ → Got → Turn
-  brought n (G.Line k next) = answeredTurn (gatheredIn x have b from) n next (replyOf (gatheredIn x have b from) k n session ts ps rs out)
+  brought n (G.Line k next) = answeredTurn (gatheredIn x have b from) n next (replyOf (gatheredIn x have b from) k n session s rs out)
   brought n (G.More k) = wentOn k
 
   unfoldable pub numbered : Numbering → Turn
@@ -100,7 +97,7 @@ module _ (b : List ℕ) (from : ℕ) (x : List ℕ) (have lines : ℕ) (session 
   unfoldable pub turnOf : Turn
   turnOf = numbered (numberAfter lines)
 
-pub record Serves (e : Turn) (r : Served) (x ts ps rs out : List ℕ) : Type 0 where
+pub record Serves (e : Turn) (r : Served) (x : List ℕ) (s′ : Tables) (rs out : List ℕ) : Type 0 where
   pub next : r .next ≡ e .next
   pub have : r .have ≡ e .have
   pub lines : r .lines ≡ e .lines
@@ -108,7 +105,6 @@ pub record Serves (e : Turn) (r : Served) (x ts ps rs out : List ℕ) : Type 0 w
   pub bytes : r .bytes ≡ e .bytes
   pub going : r .going ≡ e .going
   pub line : x ≡ e .line
-  pub tasks : ts ≡ e .tasks
-  pub promises : ps ≡ e .promises
+  pub after : s′ ≡ e .after
   pub report : rs ≡ e .report
   pub answer : out ≡ e .out

@@ -2,6 +2,7 @@
 use gather::Got;
 use gather::Numbering;
 use sessions::Session;
+ghost use Rattle.rules.specs.Tables.{tables as tablesOf};
 ghost use Rattle.serving.specs.Serving.{turnOf, answeredTurn, Serves};
 ghost use Rattle.lines.specs.Lines.{replyOf};
 
@@ -28,7 +29,7 @@ fn answer(
     report: &mut [u16],
     out: &mut [u8],
 ) -> Served
-    ensures { λ r. ⌜ Serves (answeredTurn (now (line .entry)) number next (replyOf (now (line .entry)) have number session (now (tasks .entry)) (now (promises .entry)) (now (report .entry)) (now (out .entry)))) r (now (line .entry)) (now (tasks .exit)) (now (promises .exit)) (now (report .exit)) (now (out .exit)) ⌝ }
+    ensures { λ r. ⌜ Serves (answeredTurn (now (line .entry)) number next (replyOf (now (line .entry)) have number session (tablesOf (now (tasks .entry)) (now (promises .entry))) (now (report .entry)) (now (out .entry)))) r (now (line .entry)) (tablesOf (now (tasks .exit)) (now (promises .exit))) (now (report .exit)) (now (out .exit)) ⌝ }
 {
     let entered = lines::reply(line, have, number, session, tasks, promises, report, out);
     let after = entered.session;
@@ -56,7 +57,7 @@ pub fn serve(
     report: &mut [u16],
     out: &mut [u8],
 ) -> Served
-    ensures { λ r. ⌜ Serves (turnOf (now (block .entry)) from (now (line .entry)) have lines session (now (tasks .entry)) (now (promises .entry)) (now (report .entry)) (now (out .entry))) r (now (line .exit)) (now (tasks .exit)) (now (promises .exit)) (now (report .exit)) (now (out .exit)) ⌝ }
+    ensures { λ r. ⌜ Serves (turnOf (now (block .entry)) from (now (line .entry)) have lines session (tablesOf (now (tasks .entry)) (now (promises .entry))) (now (report .entry)) (now (out .entry))) r (now (line .exit)) (tablesOf (now (tasks .exit)) (now (promises .exit))) (now (report .exit)) (now (out .exit)) ⌝ }
 {
     let after = gather::number_after(lines);
     match after {

@@ -1,13 +1,9 @@
 // What a line does in a session.
-use ending::step_end;
 use forms::Form;
-use getting::step_get;
-use making::step_new;
 use opening::fresh;
 use opening::fresh_refusal;
 use rules::Answer;
-use setting::step_set;
-use starting::step_async;
+use steps::step;
 use words::sizes_in_bounds;
 ghost use mathlib.Core.Path.{_≡_};
 ghost use mathlib.Core.List.{[]};
@@ -17,7 +13,7 @@ ghost use lib.ListN.{length, take};
 ghost use Rattle.rules.specs.Tables.{tables as tablesOf};
 ghost use Rattle.rules.specs.Contracts.{Gives};
 ghost use Rattle.forms.specs.Judging.{countIn};
-ghost use Rattle.sessions.specs.Sessions.{inSession, refusedAtColumn, unopenedDeed, openDeed, openOutcome, deedOf, Does, InPart};
+ghost use Rattle.sessions.specs.Sessions.{inSession, refusedAtColumn, unopenedDeed, openDeed, openOutcome, partOutcome, deedOf, Does};
 
 // The session value: unopened, or the numbers of tasks and promises of the session.
 pub enum Session {
@@ -60,15 +56,11 @@ fn in_open(
     report: &mut [u16],
 ) -> Answer
     requires { ⌜ countIn form ≤ length (now list) ⌝ }
-    ensures { λ r. ⌜ Gives (openOutcome form (take (countIn form) (now (list .entry))) (length (now (report .entry))) (tablesOf (now (tasks .entry)) (now (promises .entry)))) (now (report .entry)) r (now (tasks .exit)) (now (promises .exit)) (now (report .exit)) ⌝ }
+    ensures { λ r. ⌜ Gives (openOutcome form (take (countIn form) (now (list .entry))) (length (now (report .entry))) (tablesOf (now (tasks .entry)) (now (promises .entry)))) (now (report .entry)) r (tablesOf (now (tasks .exit)) (now (promises .exit))) (now (report .exit)) ⌝ }
 {
     match form {
         Form::Open(_, _) => Answer::Refused(15),
-        Form::New(t, p) => step_new(tasks, promises, report, t, p),
-        Form::Set(t, p) => step_set(tasks, promises, report, t, p),
-        Form::Get(t, p) => step_get(tasks, promises, report, t, p),
-        Form::Async(t, c, n) => step_async(tasks, promises, report, t, c, &list[0..n]),
-        Form::End(t) => step_end(tasks, promises, report, t),
+        Form::Step(kind, t, p, n) => step(tasks, promises, report, kind, t, p, &list[0..n]),
         Form::Bad(column) => refused_at_column(column),
     }
 }
@@ -76,7 +68,7 @@ fn in_open(
 // Opens a session of `t` tasks and `p` promises: fresh tables go into the first words of the lent ones.
 fn open_session(t: u16, p: u16, tasks: &mut [u16], promises: &mut [u16]) -> Done
     requires { ⌜ (length (now tasks) ≡ 64) × (length (now promises) ≡ 256) ⌝ }
-    ensures { λ r. ⌜ Does (openDeed (now (tasks .entry)) (now (promises .entry)) t p) [] r (now (tasks .exit)) (now (promises .exit)) [] ⌝ }
+    ensures { λ r. ⌜ Does (openDeed (tablesOf (now (tasks .entry)) (now (promises .entry))) t p) [] r (tablesOf (now (tasks .exit)) (now (promises .exit))) [] ⌝ }
 {
     let i = t as usize;
     let j = p as usize;
@@ -107,15 +99,11 @@ fn refused_unopened(answer: Answer) -> Done
 // A line before a session is opened.
 fn unopened(form: Form, tasks: &mut [u16], promises: &mut [u16]) -> Done
     requires { ⌜ (length (now tasks) ≡ 64) × (length (now promises) ≡ 256) ⌝ }
-    ensures { λ r. ⌜ Does (unopenedDeed form (now (tasks .entry)) (now (promises .entry))) [] r (now (tasks .exit)) (now (promises .exit)) [] ⌝ }
+    ensures { λ r. ⌜ Does (unopenedDeed form (tablesOf (now (tasks .entry)) (now (promises .entry)))) [] r (tablesOf (now (tasks .exit)) (now (promises .exit))) [] ⌝ }
 {
     match form {
         Form::Open(t, p) => open_session(t, p, tasks, promises),
-        Form::New(_, _) => refused_unopened(Answer::Refused(15)),
-        Form::Set(_, _) => refused_unopened(Answer::Refused(15)),
-        Form::Get(_, _) => refused_unopened(Answer::Refused(15)),
-        Form::Async(_, _, _) => refused_unopened(Answer::Refused(15)),
-        Form::End(_) => refused_unopened(Answer::Refused(15)),
+        Form::Step(_, _, _, _) => refused_unopened(Answer::Refused(15)),
         Form::Bad(column) => refused_unopened(refused_at_column(column)),
     }
 }
@@ -131,7 +119,7 @@ fn in_part(
     report: &mut [u16],
 ) -> Answer
     requires { ⌜ (countIn form ≤ length (now list)) × (t ≤ length (now tasks)) × (p ≤ length (now promises)) ⌝ }
-    ensures { λ r. ⌜ InPart (openOutcome form (take (countIn form) (now (list .entry))) (length (now (report .entry))) (tablesOf (take t (now (tasks .entry))) (take p (now (promises .entry))))) t p (now (tasks .entry)) (now (promises .entry)) (now (report .entry)) r (now (tasks .exit)) (now (promises .exit)) (now (report .exit)) ⌝ }
+    ensures { λ r. ⌜ Gives (partOutcome form (take (countIn form) (now (list .entry))) (length (now (report .entry))) t p (tablesOf (now (tasks .entry)) (now (promises .entry)))) (now (report .entry)) r (tablesOf (now (tasks .exit)) (now (promises .exit))) (now (report .exit)) ⌝ }
 {
     in_open(form, list, &mut tasks[0..t], &mut promises[0..p], report)
 }
@@ -146,7 +134,7 @@ pub fn act(
     report: &mut [u16],
 ) -> Done
     requires { ⌜ (countIn form ≤ length (now list)) × (inSession session ≡ true) × (length (now tasks) ≡ 64) × (length (now promises) ≡ 256) ⌝ }
-    ensures { λ r. ⌜ Does (deedOf form (take (countIn form) (now (list .entry))) session (now (tasks .entry)) (now (promises .entry)) (length (now (report .entry)))) (now (report .entry)) r (now (tasks .exit)) (now (promises .exit)) (now (report .exit)) ⌝ }
+    ensures { λ r. ⌜ Does (deedOf form (take (countIn form) (now (list .entry))) session (tablesOf (now (tasks .entry)) (now (promises .entry))) (length (now (report .entry)))) (now (report .entry)) r (tablesOf (now (tasks .exit)) (now (promises .exit))) (now (report .exit)) ⌝ }
 {
     match session {
         Session::Unopened => unopened(form, tasks, promises),

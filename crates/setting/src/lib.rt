@@ -3,12 +3,12 @@ ghost use mathlib.Core.Path.{_≡_};
 ghost use mathlib.Core.Bool.{true};
 ghost use Prim.Native.Nat.{_-_};
 ghost use lib.ListN.{length, getD};
-ghost use Rattle.words.specs.Words.{small, inBounds};
-ghost use Rattle.rules.specs.Tables.{tables as tablesOf};
+ghost use Rattle.words.specs.Words.{small};
+ghost use Rattle.rules.specs.Tables.{tables as tablesOf, inBounds};
 ghost use Rattle.rules.specs.Answers.{refusedWith};
 ghost use Rattle.rules.specs.Refusals.{first};
-ghost use Rattle.rules.specs.Steps.{step-set, rows, raw, step};
-ghost use Rattle.rules.specs.Contracts.{Gives};
+ghost use Rattle.rules.specs.Steps.{step-set, rows};
+ghost use Rattle.rules.specs.Contracts.{Takes, TakesRaw};
 use guards::actor_refusal;
 use guards::blamed_task;
 use guards::own_refusal;
@@ -49,8 +49,8 @@ pub fn raw_set(
     t: u16,
     p: u16,
 ) -> Answer
-    requires { ⌜ inBounds small (length (now tasks)) (length (now promises)) (length (now report)) ≡ true ⌝ }
-    ensures { λ r. ⌜ Gives (raw small (tablesOf (now (tasks .entry)) (now (promises .entry))) (step-set t p)) (now (report .entry)) r (now (tasks .exit)) (now (promises .exit)) (now (report .exit)) ⌝ }
+    requires { ⌜ inBounds small (length (now report)) (tablesOf (now tasks) (now promises)) ≡ true ⌝ }
+    ensures { λ r. ⌜ TakesRaw small (step-set t p) (tablesOf (now (tasks .entry)) (now (promises .entry))) (now (report .entry)) r (tablesOf (now (tasks .exit)) (now (promises .exit))) (now (report .exit)) ⌝ }
 {
     let r = refusal(tasks, promises, t, p);
     if r != 0 {
@@ -72,7 +72,7 @@ pub fn step_set(
     t: u16,
     p: u16,
 ) -> Answer
-    ensures { λ r. ⌜ Gives (step small (length (now (report .entry))) (tablesOf (now (tasks .entry)) (now (promises .entry))) (step-set t p)) (now (report .entry)) r (now (tasks .exit)) (now (promises .exit)) (now (report .exit)) ⌝ }
+    ensures { λ r. ⌜ Takes small (step-set t p) (tablesOf (now (tasks .entry)) (now (promises .entry))) (now (report .entry)) r (tablesOf (now (tasks .exit)) (now (promises .exit))) (now (report .exit)) ⌝ }
 {
     let d = table_refusal(tasks, promises, report.len());
     if d != 0 {

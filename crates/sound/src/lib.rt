@@ -2,7 +2,8 @@
 use tables::at;
 use words::PromiseWord;
 use words::TaskWord;
-use words::in_bounds;
+use words::room_for;
+use words::sizes_in_bounds;
 ghost use mathlib.Core.Path.{_≡_};
 ghost use mathlib.Core.Bool.{_&&_};
 ghost use Prim.Native.Nat.{_-_};
@@ -10,7 +11,7 @@ ghost use lib.Dec.{eqb, leb, ltb};
 ghost use lib.ListN.{length, getD};
 ghost use Rattle.words.specs.Words.{small, Form, endedWord, firstOwned};
 ghost use Rattle.words.specs.Lists.{allBelow};
-ghost use Rattle.rules.specs.Tables.{tables, live as liveWord};
+ghost use Rattle.rules.specs.Tables.{tables, inBounds, live as liveWord};
 ghost use Rattle.rules.specs.Sound.{hop as hopOf, hopOwner, comes as comesTo, taskPasses, promisePasses, promiseWordPasses, soundTest};
 ghost use Rattle.rules.specs.Refusals.{first, tableRows};
 ghost use Rattle.sound.specs.Hops.{hopRead};
@@ -188,11 +189,21 @@ pub fn is_sound(tasks: &[u16], promises: &[u16]) -> bool
     tasks_pass(tasks, promises) & promises_pass(tasks, promises)
 }
 
+// Whether the lengths of the tables and the report's length are within their bounds: the one test of lengths.
+fn in_bounds(tasks: &[u16], promises: &[u16], report: usize) -> bool
+    ensures { λ r. ⌜ r ≡ inBounds small report (tables (now (tasks .entry)) (now (promises .entry))) ⌝ }
+{
+    if sizes_in_bounds(tasks.len(), promises.len()) {
+        return room_for(tasks.len(), promises.len()) <= report;
+    }
+    false
+}
+
 // Refusal 1 or 2, or 0; `report` is the report's length.
 pub fn table_refusal(tasks: &[u16], promises: &[u16], report: usize) -> u16
     ensures { λ r. ⌜ r ≡ first (tableRows small report (tables (now (tasks .entry)) (now (promises .entry)))) ⌝ }
 {
-    if in_bounds(tasks.len(), promises.len(), report) {
+    if in_bounds(tasks, promises, report) {
         if is_sound(tasks, promises) {
             return 0;
         }

@@ -4,13 +4,13 @@ ghost use mathlib.Core.List.{[], _∷_};
 ghost use mathlib.Core.Bool.{true, not};
 ghost use Prim.Native.Nat.{_-_, _<_};
 ghost use lib.ListN.{length, getD};
-ghost use Rattle.words.specs.Words.{small, inBounds};
+ghost use Rattle.words.specs.Words.{small};
 ghost use Rattle.words.specs.Lists.{allBelow};
-ghost use Rattle.rules.specs.Tables.{tables as tablesOf};
+ghost use Rattle.rules.specs.Tables.{tables as tablesOf, sizesFit};
 ghost use Rattle.rules.specs.Answers.{refusedAtWith};
 ghost use Rattle.rules.specs.Refusals.{first, differs, entryRefusal, firstBad};
-ghost use Rattle.rules.specs.Steps.{step-async, rows, raw, step, given};
-ghost use Rattle.rules.specs.Contracts.{Gives};
+ghost use Rattle.rules.specs.Steps.{step-async, rows, given};
+ghost use Rattle.rules.specs.Contracts.{Takes, TakesQuietly};
 use guards::actor_refusal;
 use guards::blamed_task;
 use guards::child_refusal;
@@ -104,16 +104,9 @@ fn give(promises: &mut [u16], w: u16, list: &[u16])
 }
 
 // The step without refusals 1 and 2, for a caller that has tested the bounds and the tables. Nothing is stored before the whole list has passed.
-pub fn raw_async(
-    tasks: &mut [u16],
-    promises: &mut [u16],
-    report: &mut [u16],
-    t: u16,
-    c: u16,
-    list: &[u16],
-) -> Answer
-    requires { ⌜ inBounds small (length (now tasks)) (length (now promises)) (length (now report)) ≡ true ⌝ }
-    ensures { λ r. ⌜ Gives (raw small (tablesOf (now (tasks .entry)) (now (promises .entry))) (step-async t c (now (list .entry)))) (now (report .entry)) r (now (tasks .exit)) (now (promises .exit)) (now (report .exit)) ⌝ }
+pub fn raw_async(tasks: &mut [u16], promises: &mut [u16], t: u16, c: u16, list: &[u16]) -> Answer
+    requires { ⌜ sizesFit small (tablesOf (now tasks) (now promises)) ≡ true ⌝ }
+    ensures { λ r. ⌜ TakesQuietly small (step-async t c (now (list .entry))) (tablesOf (now (tasks .entry)) (now (promises .entry))) r (tablesOf (now (tasks .exit)) (now (promises .exit))) ⌝ }
 {
     let r = refusal(tasks, promises, t, c, list);
     if r != 0 {
@@ -138,11 +131,11 @@ pub fn step_async(
     c: u16,
     list: &[u16],
 ) -> Answer
-    ensures { λ r. ⌜ Gives (step small (length (now (report .entry))) (tablesOf (now (tasks .entry)) (now (promises .entry))) (step-async t c (now (list .entry)))) (now (report .entry)) r (now (tasks .exit)) (now (promises .exit)) (now (report .exit)) ⌝ }
+    ensures { λ r. ⌜ Takes small (step-async t c (now (list .entry))) (tablesOf (now (tasks .entry)) (now (promises .entry))) (now (report .entry)) r (tablesOf (now (tasks .exit)) (now (promises .exit))) (now (report .exit)) ⌝ }
 {
     let d = table_refusal(tasks, promises, report.len());
     if d != 0 {
         return Answer::Refused(d);
     }
-    raw_async(tasks, promises, report, t, c, list)
+    raw_async(tasks, promises, t, c, list)
 }

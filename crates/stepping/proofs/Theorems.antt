@@ -19,9 +19,9 @@ use Rattle.rules.proofs.GuardLaws.{guarded-none}
 use Rattle.rules.proofs.Order.{numbered-append, tableRows-numbered, rows-numbered, guarded-joined, guarded-refused, guarded-first, effect-refuses-at, tables-plain}
 use Rattle.rules.proofs.AnswerLaws.{stepRefused-number, stepRefused-plain}
 use Rattle.rules.proofs.RefusalLaws.{Numbered, row, no-row}
-use Rattle.stepping.specs.declared.Kind.the-variants.{Async}
+use Rattle.kinds.specs.Kinds.{shapeOf, takesList}
 use Rattle.stepping.specs.declared.Record.{Record}
-use Rattle.stepping.specs.Records.{stepOf, isAsync, partRows, stepRecord, Turns}
+use Rattle.stepping.specs.Records.{stepOf, partRows, stepRecord, Turns}
 use Rattle.stepping.proofs.RecordLaws.{part-not-given}
 
 module _ (F : Form) (n : ℕ) (list : List ℕ) (s : Tables) (r : Record) where
@@ -30,7 +30,7 @@ module _ (F : Form) (n : ℕ) (list : List ℕ) (s : Tables) (r : Record) where
   recordRows = tableRows F n s ++ (partRows list r ++ rows F s (stepOf list r))
 
   -- it is the step that the record names, but for a list part that passes the list's end
-  pub the-step-it-names : (r .kind ≡ Async → r .start + r .length ≤ length list) → stepRecord F n list s r ≡ step F n s (stepOf list r)
+  pub the-step-it-names : (takesList (shapeOf (r .kind)) ≡ true → r .start + r .length ≤ length list) → stepRecord F n list s r ≡ step F n s (stepOf list r)
   the-step-it-names h = ap (guarded byNumber (first (tableRows F n s)) s) (guarded-none _ (first (partRows list r)) s (raw F s (stepOf list r)) (part-not-given list r h))
 
   -- from 3 on
@@ -47,7 +47,7 @@ module _ (F : Form) (n : ℕ) (list : List ℕ) (s : Tables) (r : Record) where
   -- 16 is given by number alone
   part-plain : Refused (first (partRows list r)) ≡ stepRefused F s (stepOf list r) (first (partRows list r))
   unfolding first
-  part-plain = sym (stepRefused-plain F s (stepOf list r) (first (partRows list r)) (go (isAsync (r .kind) && ltb (length list) (r .start + r .length))))
+  part-plain = sym (stepRefused-plain F s (stepOf list r) (first (partRows list r)) (go (takesList (shapeOf (r .kind)) && ltb (length list) (r .start + r .length))))
     where
       go : (b : Bool) → first ((16, b) ∷ []) ≢ 17
       go true e = absurd (omega arith)
@@ -73,6 +73,6 @@ module _ (F : Form) (n : ℕ) (list : List ℕ) (s : Tables) (r : Record) where
       joined ∙ guarded-first (stepRefused F s (stepOf list r)) s (effect F s (stepOf list r)) (numbered-append (tableRows-numbered F n s) (numbered-append part-numbered (rows-numbered F s (stepOf list r)))) g
 
 -- any two outcomes that the contract of a turn allows coincide
-pub turns-unique : {o : Outcome} {at i : ℕ} {rs ws : List ℕ} {n n′ : ℕ} {ts ts′ ps ps′ rep rep′ ans ans′ : List ℕ} → Turns o at i rs ws n ts ps rep ans → Turns o at i rs ws n′ ts′ ps′ rep′ ans′
-    → (n ≡ n′) × (ts ≡ ts′) × (ps ≡ ps′) × (rep ≡ rep′) × (ans ≡ ans′)
-turns-unique g h = (g .next-at ∙ sym (h .next-at), g .tasks ∙ sym (h .tasks), g .promises ∙ sym (h .promises), g .report ∙ sym (h .report), g .answers ∙ sym (h .answers))
+pub turns-unique : {o : Outcome} {at i : ℕ} {rs ws : List ℕ} {n n′ : ℕ} {s s′ : Tables} {rep rep′ ans ans′ : List ℕ} → Turns o at i rs ws n s rep ans → Turns o at i rs ws n′ s′ rep′ ans′
+    → (n ≡ n′) × (s ≡ s′) × (rep ≡ rep′) × (ans ≡ ans′)
+turns-unique g h = (g .next-at ∙ sym (h .next-at), g .after ∙ sym (h .after), g .report ∙ sym (h .report), g .answers ∙ sym (h .answers))

@@ -115,18 +115,18 @@ put-all ws q q₀ n l e f =
 
 -- ---- the ways out of a call
 
-by-1 : (F : Form) (list : List ℕ) (s : Tables) (ws rs vs : List ℕ) → flatly F list s ws (length rs) (length vs) ≡ refused 1 s → Flats (flatly F list s ws (length rs) (length vs)) rs vs 1 (s .tasks) (s .promises) rs vs
+by-1 : (F : Form) (list : List ℕ) (s : Tables) (ws rs vs : List ℕ) → flatly F list s ws (length rs) (length vs) ≡ refused 1 s → Flats (flatly F list s ws (length rs) (length vs)) rs vs 1 s rs vs
 unfolding calledNumber
-by-1 F list s ws rs vs e = rw e (record { number = refl; tasks = refl; promises = refl; report = sym (over-none rs); answers = sym (over-none vs) })
+by-1 F list s ws rs vs e = rw e (record { number = refl; after = refl; report = sym (over-none rs); answers = sym (over-none vs) })
 
 -- the words are no records
-pub flat-refused : (F : Form) (list : List ℕ) (s : Tables) (ws rs vs : List ℕ) → isFlat ws ≡ false → Flats (flatly F list s ws (length rs) (length vs)) rs vs 1 (s .tasks) (s .promises) rs vs
+pub flat-refused : (F : Form) (list : List ℕ) (s : Tables) (ws rs vs : List ℕ) → isFlat ws ≡ false → Flats (flatly F list s ws (length rs) (length vs)) rs vs 1 s rs vs
 unfolding flatly
 flat-refused F list s ws rs vs e = by-1 F list s ws rs vs (rw e)
 
 -- they are too many
 pub flat-many : (F : Form) (list : List ℕ) (s : Tables) (ws rs vs : List ℕ) → isFlat ws ≡ true → mostRecords < length ws / 5
-    → Flats (flatly F list s ws (length rs) (length vs)) rs vs 1 (s .tasks) (s .promises) rs vs
+    → Flats (flatly F list s ws (length rs) (length vs)) rs vs 1 s rs vs
 unfolding flatly first called
 flat-many F list s ws rs vs e h =
     let k : length (recordsOf ws) ≡ length ws / 5 = records-count ws (length ws / 5) (flat-fives ws e) in
@@ -134,8 +134,8 @@ flat-many F list s ws rs vs e h =
     (rw (e, ← room-too-many F (length (s .tasks)) (length (s .promises)) (length (recordsOf ws)) (length rs) (length vs) (omega arith)))
 
 -- they are the call by the records
-pub flat-batches : (F : Form) (list : List ℕ) (s : Tables) (ws rs vs : List ℕ) (q : List Record) {c : Called} {r : ℕ} {ts ps rs′ vs′ : List ℕ} → isFlat ws ≡ true → q ≡ recordsOf ws
-    → Batches (batched F list s q (length rs) (length vs)) rs vs c ts ps rs′ vs′ → r ≡ calledNumber c → Flats (flatly F list s ws (length rs) (length vs)) rs vs r ts ps rs′ vs′
+pub flat-batches : (F : Form) (list : List ℕ) (s : Tables) (ws rs vs : List ℕ) (q : List Record) {c : Called} {r : ℕ} {s′ : Tables} {rs′ vs′ : List ℕ} → isFlat ws ≡ true → q ≡ recordsOf ws
+    → Batches (batched F list s q (length rs) (length vs)) rs vs c s′ rs′ vs′ → r ≡ calledNumber c → Flats (flatly F list s ws (length rs) (length vs)) rs vs r s′ rs′ vs′
 unfolding flatly
 flat-batches F list s ws rs vs q e f g h =
-    rw (e, ← f) (record { number = h ∙ ap calledNumber (g .answer); tasks = g .tasks; promises = g .promises; report = g .report; answers = g .answers })
+    rw (e, ← f) (record { number = h ∙ ap calledNumber (g .answer); after = g .after; report = g .report; answers = g .answers })

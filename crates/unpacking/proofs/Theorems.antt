@@ -6,16 +6,16 @@ use mathlib.Core.Bool.{true, false}
 use lib.Dec.{leb}
 use Rattle.words.specs.Words.{Form}
 use Rattle.rules.specs.Tables.{Tables}
-use Rattle.stepping.specs.declared.Kind.{Kind}
-use Rattle.stepping.specs.declared.Kind.the-variants.{New, Set, Get, Async, End}
+use Rattle.kinds.specs.declared.Kind.{Kind}
+use Rattle.kinds.specs.declared.Kind.the-variants.{New, Set, Get, Async, End}
 use Rattle.stepping.specs.declared.Record.{Record}
 use Rattle.batching.specs.Batches.{CallOutcome, batched}
 use Rattle.unpacking.specs.Flat.{kindOf, kindWord, recordsOf, wordsOf, isFlat, flatly, Flats}
 
 -- any two outcomes that the contract of `batch_words` allows coincide
-pub flat-unique : {o : CallOutcome} {rs ws : List ℕ} {r r′ : ℕ} {ts ts′ ps ps′ rs₁ rs₂ ws₁ ws₂ : List ℕ} → Flats o rs ws r ts ps rs₁ ws₁ → Flats o rs ws r′ ts′ ps′ rs₂ ws₂
-    → (r ≡ r′) × (ts ≡ ts′) × (ps ≡ ps′) × (rs₁ ≡ rs₂) × (ws₁ ≡ ws₂)
-flat-unique g h = (g .number ∙ sym (h .number), g .tasks ∙ sym (h .tasks), g .promises ∙ sym (h .promises), g .report ∙ sym (h .report), g .answers ∙ sym (h .answers))
+pub flat-unique : {o : CallOutcome} {rs ws : List ℕ} {r r′ : ℕ} {s s′ : Tables} {rs₁ rs₂ ws₁ ws₂ : List ℕ} → Flats o rs ws r s rs₁ ws₁ → Flats o rs ws r′ s′ rs₂ ws₂
+    → (r ≡ r′) × (s ≡ s′) × (rs₁ ≡ rs₂) × (ws₁ ≡ ws₂)
+flat-unique g h = (g .number ∙ sym (h .number), g .after ∙ sym (h .after), g .report ∙ sym (h .report), g .answers ∙ sym (h .answers))
 
 -- ---- the words of records stand for these records, so a call by them is the call by the records
 

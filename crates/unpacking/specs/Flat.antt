@@ -19,8 +19,8 @@ use lib.ListN.{getD}
 use Rattle.words.specs.Words.{Form}
 use Rattle.words.specs.Lists.{over}
 use Rattle.rules.specs.Tables.{Tables}
-use Rattle.stepping.specs.declared.Kind.{Kind}
-use Rattle.stepping.specs.declared.Kind.the-variants.{New, Set, Get, Async, End}
+use Rattle.kinds.specs.declared.Kind.{Kind}
+use Rattle.kinds.specs.declared.Kind.the-variants.{New, Set, Get, Async, End}
 use Rattle.stepping.specs.declared.Record.{Record}
 use Rattle.batching.specs.declared.Called.{Called}
 use Rattle.batching.specs.declared.Called.the-variants.{Refused, Done}
@@ -74,9 +74,8 @@ calledNumber (Done n) = 0
 unfoldable pub flatly : Form → List ℕ → Tables → List ℕ → ℕ → ℕ → CallOutcome
 flatly F list s ws m k = cond (isFlat ws) (batched F list s (recordsOf ws) m k) (refused 1 s)
 
-pub record Flats (o : CallOutcome) (rs ws : List ℕ) (r : ℕ) (ts ps rs′ ws′ : List ℕ) : Type 0 where
+pub record Flats (o : CallOutcome) (rs ws : List ℕ) (r : ℕ) (s′ : Tables) (rs′ ws′ : List ℕ) : Type 0 where
   pub number : r ≡ calledNumber (o .answer)
-  pub tasks : ts ≡ o .after .tasks
-  pub promises : ps ≡ o .after .promises
+  pub after : s′ ≡ o .after
   pub report : rs′ ≡ over (o .words) rs
   pub answers : ws′ ≡ over (o .answers) ws

@@ -1,7 +1,7 @@
 // The batch for callers that know numbers alone: a record is five words, its kind, its task, its other number, and the start and the length of its part of the list.
 use batching::Called;
 use batching::batch;
-use stepping::Kind;
+use kinds::Kind;
 use stepping::Record;
 use tables::at;
 use words::Limit;
@@ -90,7 +90,7 @@ fn batch_first(
     answers: &mut [u16],
 ) -> Called
     requires { ⌜ n ≤ 256 ⌝ }
-    ensures { λ r. ⌜ Batches (batched small (now (list .entry)) (tablesOf (now (tasks .entry)) (now (promises .entry))) (take n records) (length (now (report .entry))) (length (now (answers .entry)))) (now (report .entry)) (now (answers .entry)) r (now (tasks .exit)) (now (promises .exit)) (now (report .exit)) (now (answers .exit)) ⌝ }
+    ensures { λ r. ⌜ Batches (batched small (now (list .entry)) (tablesOf (now (tasks .entry)) (now (promises .entry))) (take n records) (length (now (report .entry))) (length (now (answers .entry)))) (now (report .entry)) (now (answers .entry)) r (tablesOf (now (tasks .exit)) (now (promises .exit))) (now (report .exit)) (now (answers .exit)) ⌝ }
 {
     batch(tasks, promises, report, &records[0..n], list, answers)
 }
@@ -114,7 +114,7 @@ pub fn batch_words(
     list: &[u16],
     answers: &mut [u16],
 ) -> u16
-    ensures { λ r. ⌜ Flats (flatly small (now (list .entry)) (tablesOf (now (tasks .entry)) (now (promises .entry))) (now (steps .entry)) (length (now (report .entry))) (length (now (answers .entry)))) (now (report .entry)) (now (answers .entry)) r (now (tasks .exit)) (now (promises .exit)) (now (report .exit)) (now (answers .exit)) ⌝ }
+    ensures { λ r. ⌜ Flats (flatly small (now (list .entry)) (tablesOf (now (tasks .entry)) (now (promises .entry))) (now (steps .entry)) (length (now (report .entry))) (length (now (answers .entry)))) (now (report .entry)) (now (answers .entry)) r (tablesOf (now (tasks .exit)) (now (promises .exit))) (now (report .exit)) (now (answers .exit)) ⌝ }
 {
     if !is_flat(steps) {
         return 1;

@@ -1,10 +1,10 @@
 -- Laws of specs/Words.antt: the bounds as a test and as facts. Assumes nothing.
-use Prim.Native.Nat.{ℕ, _+_, _*_, _≤_}
+use Prim.Native.Nat.{ℕ, _≤_}
 use mathlib.Core.Path.{_≡_}
 use mathlib.Core.Bool.{true, _&&_}
 use lib.Dec.{leb}
 use borrow.Author.Tests.{leb-true, le-leb}
-use Rattle.words.specs.Words.{Form, sizesInBounds, inBounds}
+use Rattle.words.specs.Words.{Form, sizesInBounds}
 use Rattle.words.proofs.BoolLaws.{and-split, and-yes}
 
 -- T and P are within their bounds
@@ -23,22 +23,3 @@ sizesInBounds-true F T P e =
 pub sizesInBounds-of : (F : Form) (T P : ℕ) → Sizes F T P → sizesInBounds F T P ≡ true
 unfolding sizesInBounds
 sizesInBounds-of F T P b = and-yes _ _ (and-yes _ _ (le-leb 1 T (b .some)) (le-leb T (F .mostTasks) (b .tasks))) (le-leb P (F .mostPromises) (b .promises))
-
--- and so is the report's length n
-pub record Bounds (F : Form) (T P n : ℕ) : Type 0 where
-  pub some : 1 ≤ T
-  pub tasks : T ≤ F .mostTasks
-  pub promises : P ≤ F .mostPromises
-  pub room : P + 2 * T ≤ n
-
-pub inBounds-true : (F : Form) (T P n : ℕ) → inBounds F T P n ≡ true → Bounds F T P n
-unfolding inBounds
-inBounds-true F T P n e =
-    let (a, b) = and-split (sizesInBounds F T P) (leb (P + 2 * T) n) e in
-    let s = sizesInBounds-true F T P a in
-    record { some = s .some; tasks = s .tasks; promises = s .promises; room = leb-true (P + 2 * T) n b }
-
-pub inBounds-of : (F : Form) (T P n : ℕ) → Bounds F T P n → inBounds F T P n ≡ true
-unfolding inBounds
-inBounds-of F T P n b =
-    and-yes _ _ (sizesInBounds-of F T P (record { some = b .some; tasks = b .tasks; promises = b .promises })) (le-leb (P + 2 * T) n (b .room))

@@ -4,7 +4,8 @@
 --   unmadeWord, setWord, ownedBy t, blamedOn B t   the words of the promise table; B is where the blamed words begin
 --   firstWait, firstOwned                          the word that waits on promise 0, the word owned by task 0
 --   Form, small                                    where the blamed words begin, and the limits
---   sizesInBounds F T P, inBounds F T P n          T and P are within their bounds; and so is the report's length n
+--   sizesInBounds F T P                            T and P are within their bounds
+--   roomFor T P                                    the words of a report that has room for every answer
 --   mostRecords                                    the most steps of a batch
 --   lastLine                                       the largest number of a line
 -- Assumes nothing.
@@ -71,8 +72,8 @@ unfoldable pub sizesInBounds : Form → ℕ → ℕ → Bool
 sizesInBounds F T P = leb 1 T && leb T (F .mostTasks) && leb P (F .mostPromises)
 
 -- "and a report of at least P + 2T words"
-unfoldable pub inBounds : Form → ℕ → ℕ → ℕ → Bool
-inBounds F T P n = sizesInBounds F T P && leb (P + 2 * T) n
+abbrev pub roomFor : ℕ → ℕ → ℕ
+roomFor T P = P + 2 * T
 
 -- ---- the batch
 

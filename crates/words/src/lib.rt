@@ -1,7 +1,8 @@
 // The words of the two tables and the limits of a session, as constants of the kind of word that they belong to, and constructors of words.
+ghost use mathlib.Core.Bool.{true};
 ghost use mathlib.Core.Path.{_≡_};
 ghost use Prim.Native.Nat.{_+_, _<_};
-ghost use Rattle.words.specs.Words.{unusedWord, readyWord, endedWord, waitsOn, unmadeWord, setWord, ownedBy, blamedOn, small, sizesInBounds, inBounds};
+ghost use Rattle.words.specs.Words.{unusedWord, readyWord, endedWord, waitsOn, unmadeWord, setWord, ownedBy, blamedOn, small, sizesInBounds, roomFor};
 
 // A word of the task table.
 pub struct TaskWord {
@@ -121,12 +122,10 @@ pub fn sizes_in_bounds(tasks: usize, promises: usize) -> bool
     promises <= Limit::PROMISES
 }
 
-// Whether these and the report's length are within their bounds: refusal 1 is given where they are not.
-pub fn in_bounds(tasks: usize, promises: usize, report: usize) -> bool
-    ensures { λ r. ⌜ r ≡ inBounds small tasks promises report ⌝ }
+// The words of a report that has room for every answer.
+pub fn room_for(tasks: usize, promises: usize) -> usize
+    requires { ⌜ sizesInBounds small tasks promises ≡ true ⌝ }
+    ensures { λ r. ⌜ r ≡ roomFor tasks promises ⌝ }
 {
-    if sizes_in_bounds(tasks, promises) {
-        return promises + 2 * tasks <= report;
-    }
-    false
+    promises + 2 * tasks
 }

@@ -11,6 +11,9 @@ put-digits-requires c κs = search needs
 add-byte-requires : tie.Need-add-byte-requires
 add-byte-requires c κs = search needs
 
+layout-requires : tie.Need-layout-requires
+layout-requires c κs = search needs
+
 add-word-requires : tie.Need-add-word-requires
 add-word-requires c κs = search needs
 
@@ -25,8 +28,10 @@ same-length c = search needs
 
 returns : tie.Need-returns
 returns c =
-    answer-wrote _ _ _ (c .before .before .before .before .before .before .before .before .before .before .before .before .before .before .before .before .before .before .put-digits .ensures) (c .before .before .before .before .before .before .before .before .before .before .before .before .before .before .add-byte .ensures) (c .before .before .before .before .before .before .before .before .before .before .add-word .ensures)
-    (c .before .before .before .before .before .before .add-fields .ensures) (c .before .before .add-byte2 .ensures)
+    answer-wrote _ _ _ (c .before .before .before .before .before .before .before .before .before .before .before .before .layout .ensures) (c .before .before .before .before .before .before .before .before .before .before .before .before .before .before .before .before .before .before .before .put-digits .ensures) (c .before .before .before .before .before .before .before .before .before .before .before .before .before .before .before .add-byte .ensures)
+    (c .before .before .before .before .before .before .before .before .before .before .add-word .ensures)
+    (c .before .before .before .before .before .before .add-fields .ensures)
+    (c .before .before .add-byte2 .ensures)
 
 pub put-answer-spec : {M : Type 1} → statement M
 put-answer-spec =
@@ -34,6 +39,7 @@ put-answer-spec =
     (tie.spec
     put-digits-requires
     add-byte-requires
+    layout-requires
     add-word-requires
     add-fields-requires
     add-byte-requires-2

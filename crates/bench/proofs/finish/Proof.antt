@@ -2,6 +2,7 @@
 use Prim.Native.Nat.{_<_}
 use mathlib.Core.Path.{_≡_, sym, _∙_}
 use native.Mathlib.Omega.{arith}
+use Rattle.rules.specs.Tables.{tables}
 use Rattle.bench.proofs.BenchLaws.{ends-served, ends-none}
 use borrow.Author.Needs.{needs}
 use Rattle.bench.proofs.finish.Statement.{statement}
@@ -40,12 +41,12 @@ returns c = λ d h g.
     let a = c .before .before .before .before .before .before .before .before .before .before .before .before .before .before .before .before .before .before .before .before .before .before .before .before .before .before .args in
     let more : 0 < w .result .from = w .ensures .0 .3 g (omega arith) in
     let all : w .result .from ≡ 1 = omega (arith, w .ensures .0 .1, more) in
-    ends-served d (a .s) (w .result) (a .line .now) (a .tasks .now) (a .promises .now) (a .report .now) (a .out .now) _ _ _ _ _ (sym (c .before .before .before .before .before .before .before .before .before .before .before .before .before .before .before .before .before .before .before .before .is-last .ensures) ∙ c .before .before .before .before .before .before .before .before .before .before .before .before .before .before .before .before .before .before .before .if1 .taken) h all (w .ensures .1 d h)
+    ends-served d (a .s) (w .result) (a .line .now) (tables (a .tasks .now) (a .promises .now)) (a .report .now) (a .out .now) _ _ _ _ (sym (c .before .before .before .before .before .before .before .before .before .before .before .before .before .before .before .before .before .before .before .before .is-last .ensures) ∙ c .before .before .before .before .before .before .before .before .before .before .before .before .before .before .before .before .before .before .before .if1 .taken) h all (w .ensures .1 d h)
 
 returns-2 : tie.Need-returns-2
 returns-2 c = λ d h g.
     let a = c .before .before .before .before .before .before .before .args in
-    ends-none d (a .s) (a .line .now) (a .tasks .now) (a .promises .now) (a .report .now) (a .out .now) (sym (c .before .is-last .ensures) ∙ c .if1 .left) h
+    ends-none d (a .s) (a .line .now) (tables (a .tasks .now) (a .promises .now)) (a .report .now) (a .out .now) (sym (c .before .is-last .ensures) ∙ c .if1 .left) h
 
 pub finish-spec : {M : Type 1} → statement M
 finish-spec =

@@ -5,6 +5,7 @@ use mathlib.Core.Path.{_≡_, refl, subst, _∙_}
 use lib.ListN.{length}
 use borrow.Author.Needs.{needs}
 use native.Mathlib.Omega.{arith}
+use Rattle.rules.specs.Tables.{tables}
 use Rattle.serving.specs.Input.{Desk}
 use Rattle.bench.specs.Carrying.{At, Fed}
 use Rattle.bench.proofs.BenchLaws.{goes-on, stops-or-goes, more-than-none, at-same, fed-none, fed-more}
@@ -13,7 +14,7 @@ use Rattle.bench.proofs.serve_block.Tie as tie
 
 abbrev Inv-loop : tie.InvT-loop
 Inv-loop block line₀ tasks₀ promises₀ report₀ out₀ s₀ line tasks promises report out s =
-    (length line ≡ length line₀) × (length tasks ≡ length tasks₀) × (length promises ≡ length promises₀) × (length report ≡ length report₀) × (length out ≡ length out₀) × (s .used ≤ length out₀) × (s .from ≤ length block) × (s .from ≡ 0 → s .going ≡ s₀ .going) × ((d : Desk) → At d s₀ line₀ tasks₀ promises₀ report₀ out₀ → Fed d block 0 s line tasks promises report out)
+    (length line ≡ length line₀) × (length tasks ≡ length tasks₀) × (length promises ≡ length promises₀) × (length report ≡ length report₀) × (length out ≡ length out₀) × (s .used ≤ length out₀) × (s .from ≤ length block) × (s .from ≡ 0 → s .going ≡ s₀ .going) × ((d : Desk) → At d s₀ line₀ (tables tasks₀ promises₀) report₀ out₀ → Fed d block 0 s line (tables tasks promises) report out)
 
 abbrev μ-loop : tie.MeasureT-loop
 μ-loop block line₀ tasks₀ promises₀ report₀ out₀ s₀ line tasks promises report out s = length block - s .from
@@ -24,7 +25,7 @@ at-start-requires c κs = search needs
 loop-holds : tie.Need-loop-holds Inv-loop μ-loop
 loop-holds c =
     let e = c .at-start .ensures in
-    (search needs, search needs, search needs, search needs, search needs, search needs, search needs, λ z. refl, λ d h. fed-none d _ _ _ _ _ _ _ (e .0) h)
+    (search needs, search needs, search needs, search needs, search needs, search needs, search needs, λ z. refl, λ d h. fed-none d _ _ _ _ _ _ (e .0) h)
 
 same-length : tie.Need-same-length Inv-loop μ-loop
 same-length c = search needs
@@ -47,7 +48,7 @@ returns c =
     let e = c .before .before .before .before .before .at-start .ensures in
     let s = c .before .before .before .before .before .at-start .result in
     let a = c .before .before .before .before .before .before .before .before .before .before .before .before .args in
-    ((search needs, search needs, λ g. stops-or-goes (l .s .going) g (c .if2 .taken), λ g k. more-than-none (l .s .from) (λ z. stops-or-goes (l .s .going) (l .inv .7 z ∙ e .5 ∙ g) (c .if2 .taken))), λ d h. l .inv .8 d (at-same d (a .was) s (a .line .now) (a .tasks .now) (a .promises .now) (a .report .now) (a .out .now) (e .2) (e .3) (e .4) (e .5) (e .1) h))
+    ((search needs, search needs, λ g. stops-or-goes (l .s .going) g (c .if2 .taken), λ g k. more-than-none (l .s .from) (λ z. stops-or-goes (l .s .going) (l .inv .7 z ∙ e .5 ∙ g) (c .if2 .taken))), λ d h. l .inv .8 d (at-same d (a .was) s (a .line .now) (tables (a .tasks .now) (a .promises .now)) (a .report .now) (a .out .now) (e .2) (e .3) (e .4) (e .5) (e .1) h))
 
 serve-line-requires : tie.Need-serve-line-requires Inv-loop μ-loop
 serve-line-requires c κs = search needs
@@ -68,7 +69,7 @@ loop-again c =
       subst (λ (n : ℕ). w .result .used ≤ n) (l .inv .4) (w .ensures .0 .2),
       w .ensures .0 .1,
       λ z. absurd (omega (arith, w .ensures .0 .0)),
-      λ d h. fed-more (a .block .now) (l .s) (w .result) (l .line) (l .tasks) (l .promises) (l .report) (l .out) _ _ _ _ _ d 0 (c .before .before .before .before .before .before .before .before .before .before .before .before .before .before .before .before .before .before .if1 .taken) (goes-on (l .s .going) (c .before .before .before .before .before .before .before .before .before .before .before .before .before .before .before .before .if2 .left)) (w .ensures .1) (l .inv .8 d h),
+      λ d h. fed-more (a .block .now) (l .s) (w .result) (l .line) (tables (l .tasks) (l .promises)) (l .report) (l .out) _ _ _ _ d 0 (c .before .before .before .before .before .before .before .before .before .before .before .before .before .before .before .before .before .before .if1 .taken) (goes-on (l .s .going) (c .before .before .before .before .before .before .before .before .before .before .before .before .before .before .before .before .if2 .left)) (w .ensures .1) (l .inv .8 d h),
     )
 
 same-length-6 : tie.Need-same-length-6 Inv-loop μ-loop
@@ -92,7 +93,7 @@ returns-2 c =
     let e = c .before .before .before .at-start .ensures in
     let s = c .before .before .before .at-start .result in
     let a = c .before .before .before .before .before .before .before .before .before .before .args in
-    ((search needs, search needs, λ g. omega arith, λ g k. omega arith), λ d h. l .inv .8 d (at-same d (a .was) s (a .line .now) (a .tasks .now) (a .promises .now) (a .report .now) (a .out .now) (e .2) (e .3) (e .4) (e .5) (e .1) h))
+    ((search needs, search needs, λ g. omega arith, λ g k. omega arith), λ d h. l .inv .8 d (at-same d (a .was) s (a .line .now) (tables (a .tasks .now) (a .promises .now)) (a .report .now) (a .out .now) (e .2) (e .3) (e .4) (e .5) (e .1) h))
 
 pub serve-block-spec : {M : Type 1} → statement M
 serve-block-spec =

@@ -3,6 +3,7 @@
 use mathlib.Core.Path.{refl}
 use Prim.Native.Nat.{_+_, _-_, _≤_, _<_}
 use lib.ListN.{length, take, drop}
+use Rattle.rules.specs.Tables.{tables}
 use Rattle.serving.proofs.ServingLaws.{served-on, served-within}
 use Rattle.bench.proofs.BenchLaws.{added-within, carried}
 use Rattle.words.proofs.BoolLaws.{and-split}
@@ -19,8 +20,8 @@ facts c =
     let a = c .before .before .before .before .before .before .before .before .before .before .before .before .before .before .before .before .before .before .before .before .before .before .before .before .before .args in
     let s = w .result in
     let rest = take (length (a .out .now) - s .used) (drop (s .used) (a .out .now)) in
-    let on = served-on (a .block .now) (s .from) (a .line .now) (s .have) (s .lines) (s .session) (a .tasks .now) (a .promises .now) (a .report .now) rest (r .serve .ensures) (rw (w .ensures .0) (c .before .before .before .before .before .before .before .before .before .before .before .before .before .before .before .before .before .before .before .before .before .before .before .before .before .pre .0)) in
-    let within = served-within (a .block .now) (s .from) (a .line .now) (s .have) (s .lines) (s .session) (a .tasks .now) (a .promises .now) (a .report .now) rest (r .serve .ensures) in
+    let on = served-on (a .block .now) (s .from) (a .line .now) (s .have) (s .lines) (s .session) (tables (a .tasks .now) (a .promises .now)) (a .report .now) rest (r .serve .ensures) (rw (w .ensures .0) (c .before .before .before .before .before .before .before .before .before .before .before .before .before .before .before .before .before .before .before .before .before .before .before .before .before .pre .0)) in
+    let within = served-within (a .block .now) (s .from) (a .line .now) (s .have) (s .lines) (s .session) (tables (a .tasks .now) (a .promises .now)) (a .report .now) rest (r .serve .ensures) in
     (rw (← w .ensures .0) (on .0), on .1, added-within (a .out .now) (s .used) (r .serve .result .bytes) within (omega (arith, w .ensures)))
 
 with-room-requires : tie.Need-with-room-requires
@@ -57,7 +58,7 @@ same-length-5 : tie.Need-same-length-5
 same-length-5 c = search needs
 
 returns : tie.Need-returns
-returns c = (facts (c .before .before), carried (c .before .before .before .before .before .before .before .before .before .before .before .before .before .before .before .before .before .before .before .before .before .before .before .before .before .before .before .args .block .now) (c .before .before .before .before .before .before .before .before .before .before .before .before .before .before .before .before .before .before .before .before .before .before .before .before .before .before .before .args .was) (c .before .before .before .before .before .before .before .before .before .before .before .before .before .before .before .before .before .before .before .with-room .result) (c .before .before .before .before .before .before .before .before .before .before .before .before .before .before .before .before .before .before .before .before .before .before .before .before .before .before .before .args .line .now) (c .before .before .before .before .before .before .before .before .before .before .before .before .before .before .before .before .before .before .before .before .before .before .before .before .before .before .before .args .tasks .now) (c .before .before .before .before .before .before .before .before .before .before .before .before .before .before .before .before .before .before .before .before .before .before .before .before .before .before .before .args .promises .now) (c .before .before .before .before .before .before .before .before .before .before .before .before .before .before .before .before .before .before .before .before .before .before .before .before .before .before .before .args .report .now) (c .before .before .before .before .before .before .before .before .before .before .before .before .before .before .before .before .before .before .before .before .before .before .before .before .before .before .before .args .out .now) (c .before .before .before .before .before .before .before .before .before .before .before .before .before .before .before .before .before .before .before .with-room .ensures .0) (c .before .before .before .before .before .before .before .before .before .before .before .before .before .before .before .before .before .before .before .with-room .ensures .2) (c .before .before .before .before .before .before .before .before .before .before .before .before .before .before .before .before .before .before .before .with-room .ensures .3) (c .before .before .before .before .before .before .before .before .before .before .before .before .before .before .before .before .before .before .before .with-room .ensures .4) (c .before .before .before .before .before .before .before .before .before .before .before .before .before .serve .ensures) refl refl refl refl refl (λ e. and-split (c .before .before .before .before .before .before .before .before .before .before .before .before .before .before .before .before .before .before .before .with-room .result .going) (c .before .before .before .before .before .before .before .before .before .before .before .before .before .serve .result .going) e .1) (c .before .before .before .before .before .before .before .before .before .before .before .before .before .before .before .before .before .before .before .with-room .ensures .1) (c .before .before .before .before .before .before .before .before .before .before .before .before .before .before .before .before .before .before .before .with-room .ensures .5))
+returns c = (facts (c .before .before), carried (c .before .before .before .before .before .before .before .before .before .before .before .before .before .before .before .before .before .before .before .before .before .before .before .before .before .before .before .args .block .now) (c .before .before .before .before .before .before .before .before .before .before .before .before .before .before .before .before .before .before .before .before .before .before .before .before .before .before .before .args .was) (c .before .before .before .before .before .before .before .before .before .before .before .before .before .before .before .before .before .before .before .with-room .result) (c .before .before .before .before .before .before .before .before .before .before .before .before .before .before .before .before .before .before .before .before .before .before .before .before .before .before .before .args .line .now) (tables (c .before .before .before .before .before .before .before .before .before .before .before .before .before .before .before .before .before .before .before .before .before .before .before .before .before .before .before .args .tasks .now) (c .before .before .before .before .before .before .before .before .before .before .before .before .before .before .before .before .before .before .before .before .before .before .before .before .before .before .before .args .promises .now)) (c .before .before .before .before .before .before .before .before .before .before .before .before .before .before .before .before .before .before .before .before .before .before .before .before .before .before .before .args .report .now) (c .before .before .before .before .before .before .before .before .before .before .before .before .before .before .before .before .before .before .before .before .before .before .before .before .before .before .before .args .out .now) (c .before .before .before .before .before .before .before .before .before .before .before .before .before .before .before .before .before .before .before .with-room .ensures .0) (c .before .before .before .before .before .before .before .before .before .before .before .before .before .before .before .before .before .before .before .with-room .ensures .2) (c .before .before .before .before .before .before .before .before .before .before .before .before .before .before .before .before .before .before .before .with-room .ensures .3) (c .before .before .before .before .before .before .before .before .before .before .before .before .before .before .before .before .before .before .before .with-room .ensures .4) (c .before .before .before .before .before .before .before .before .before .before .before .before .before .serve .ensures) refl refl refl refl refl (λ e. and-split (c .before .before .before .before .before .before .before .before .before .before .before .before .before .before .before .before .before .before .before .with-room .result .going) (c .before .before .before .before .before .before .before .before .before .before .before .before .before .serve .result .going) e .1) (c .before .before .before .before .before .before .before .before .before .before .before .before .before .before .before .before .before .before .before .with-room .ensures .1) (c .before .before .before .before .before .before .before .before .before .before .before .before .before .before .before .before .before .before .before .with-room .ensures .5))
 
 pub serve-line-spec : {M : Type 1} → statement M
 serve-line-spec =

@@ -8,8 +8,8 @@ use borrow.Author.Needs.{needs}
 use Rattle.forms.proofs.judge.Statement.{statement}
 use Rattle.forms.proofs.judge.Tie as tie
 
-cast-t18 : tie.Need-cast-t18
-cast-t18 c = search needs
+cast-t15 : tie.Need-cast-t15
+cast-t15 c = search needs
 
 returns : tie.Need-returns
 returns c = judged-long _ _ (c .if1 .taken)
@@ -20,31 +20,21 @@ record-of-requires c κs = search needs
 enum-known-a : tie.Need-enum-known-a
 enum-known-a c = search needs
 
-enum-known-t : tie.Need-enum-known-t
-enum-known-t c = search needs
+enum-known-kind : tie.Need-enum-known-kind
+enum-known-kind c = search needs
 
-enum-known-t-2 : tie.Need-enum-known-t-2
-enum-known-t-2 c = search needs
-
-enum-known-t-3 : tie.Need-enum-known-t-3
-enum-known-t-3 c = search needs
-
-enum-known-t-4 : tie.Need-enum-known-t-4
-enum-known-t-4 c = search needs
+enum-known-kind-2 : tie.Need-enum-known-kind-2
+enum-known-kind-2 c = search needs
 
 with-list-requires : tie.Need-with-list-requires
-with-list-requires c κs = list-in-line _ _ _ _ (c .before .before .before .before .before .if1 .left) (sym (c .before .before .before .before .record-of .ensures) ∙ c .before .before .t4 .given .1)
-
-enum-known-t-5 : tie.Need-enum-known-t-5
-enum-known-t-5 c = search needs
+with-list-requires c κs = list-in-line _ _ _ _ _ (c .before .before .before .before .before .if1 .left) (sym (c .before .before .before .before .record-of .ensures) ∙ c .before .before .kind2 .given .1)
 
 enum-known-c : tie.Need-enum-known-c
 enum-known-c c = search needs
 
--- the column is one of the line
-cast-t23 : tie.Need-cast-t23
+cast-t20 : tie.Need-cast-t20
 unfolding ofRecord
-cast-t23 c =
+cast-t20 c =
     let h = record-in-line _ _ (c .before .before .before .before .if1 .left) (sym (c .before .before .before .record-of .ensures) ∙ c .before .c .given .1) _ refl in
     omega arith
 
@@ -54,54 +44,36 @@ returns-2 c = judged-plain _ _ _ (c .before .before .before .before .if1 .left) 
 
 returns-3 : tie.Need-returns-3
 unfolding ofRecord entriesIn
-returns-3 c = judged-plain _ _ _ (c .before .before .before .before .if1 .left) (sym (c .before .before .before .record-of .ensures) ∙ c .before .t .given .1) refl
-
-returns-4 : tie.Need-returns-4
-unfolding ofRecord entriesIn
-returns-4 c = judged-plain _ _ _ (c .before .before .before .before .if1 .left) (sym (c .before .before .before .record-of .ensures) ∙ c .before .t2 .given .1) refl
-
-returns-5 : tie.Need-returns-5
-unfolding ofRecord entriesIn
-returns-5 c = judged-plain _ _ _ (c .before .before .before .before .if1 .left) (sym (c .before .before .before .record-of .ensures) ∙ c .before .t3 .given .1) refl
+returns-3 c = judged-plain _ _ _ (c .before .before .before .before .if1 .left) (sym (c .before .before .before .record-of .ensures) ∙ c .before .kind .given .1) refl
 
 same-length : tie.Need-same-length
 same-length c = search needs
 
-returns-6 : tie.Need-returns-6
+returns-4 : tie.Need-returns-4
 unfolding ofRecord entriesIn
-returns-6 c =
+returns-4 c =
     let w = c .before .before .with-list .ensures in
-    judged-list _ _ _ (c .before .before .before .before .before .before .before .before .if1 .left) (sym (c .before .before .before .before .before .before .before .record-of .ensures) ∙ c .before .before .before .before .before .t4 .given .1) (w .0) (w .1)
+    judged-list _ _ _ (c .before .before .before .before .before .before .before .before .if1 .left) (sym (c .before .before .before .before .before .before .before .record-of .ensures) ∙ c .before .before .before .before .before .kind2 .given .1) (w .0) (w .1)
 
-returns-7 : tie.Need-returns-7
+returns-5 : tie.Need-returns-5
 unfolding ofRecord entriesIn
-returns-7 c = judged-plain _ _ _ (c .before .before .before .before .if1 .left) (sym (c .before .before .before .record-of .ensures) ∙ c .before .t5 .given .1) refl
-
-returns-8 : tie.Need-returns-8
-unfolding ofRecord entriesIn
-returns-8 c = judged-plain _ _ _ (c .before .before .before .before .if1 .left) (sym (c .before .before .before .record-of .ensures) ∙ c .before .c .given .1) refl
+returns-5 c = judged-plain _ _ _ (c .before .before .before .before .if1 .left) (sym (c .before .before .before .record-of .ensures) ∙ c .before .c .given .1) refl
 
 pub judge-spec : {M : Type 1} → statement M
 judge-spec =
     tie.close
     (tie.spec
-    cast-t18
+    cast-t15
     returns
     record-of-requires
     enum-known-a
-    enum-known-t
-    enum-known-t-2
-    enum-known-t-3
-    enum-known-t-4
+    enum-known-kind
+    enum-known-kind-2
     with-list-requires
-    enum-known-t-5
     enum-known-c
-    cast-t23
+    cast-t20
     returns-2
     returns-3
-    returns-4
-    returns-5
     same-length
-    returns-6
-    returns-7
-    returns-8)
+    returns-4
+    returns-5)

@@ -1,12 +1,14 @@
--- `getting::step_get` meets its contract: refusal 1 or 2, or what `raw_get` gives within the bounds. Assumes nothing.
-use mathlib.Core.Path.{sym, _∙_}
-use lib.ListN.{length}
-use borrow.Author.Needs.{needs}
+-- `getting::step_get` meets its contract: refusals 1 and 2 guard what `raw_get` gives, and where they are not given the bounds
+-- that `raw_get` asks for hold. Assumes nothing.
 use Rattle.words.specs.Words.{small}
-use Rattle.rules.proofs.GivesLaws.{tableRows-none, gives-refused, gives-passed}
-use Rattle.rules.specs.Tables.{tables}
+use Rattle.rules.proofs.GivesLaws.{gives-refused, gives-passed, bounds-given}
+use borrow.Author.Needs.{needs}
 use Rattle.getting.proofs.step_get.Statement.{statement}
 use Rattle.getting.proofs.step_get.Tie as tie
+
+-- the place that the needs speak of: refusals 1 and 2 are not given
+abbrev passed : tie.After-raw-get-arg3 → tie.Else1
+passed c = c .before .before .before
 
 table-refusal-requires : tie.Need-table-refusal-requires
 table-refusal-requires c κs = search needs
@@ -18,14 +20,10 @@ same-length-2 : tie.Need-same-length-2
 same-length-2 c = search needs
 
 returns : tie.Need-returns
-returns c =
-    let a = c .before .before .before .before .before .before .before .args in
-    gives-refused _ (tables (a .tasks .now) (a .promises .now)) _ _ (c .before .table-refusal .ensures) (c .if1 .taken)
+returns c = gives-refused _ _ _ _ (c .before .table-refusal .ensures) (c .if1 .taken)
 
 raw-get-requires : tie.Need-raw-get-requires
-raw-get-requires c κs =
-    let a = c .before .before .before .before .before .before .before .before .before .before .args in
-    tableRows-none small (length (a .report .now)) (tables (a .tasks .now) (a .promises .now)) (sym (c .before .before .before .before .table-refusal .ensures) ∙ c .before .before .before .if1 .left) .0
+raw-get-requires c κs = bounds-given small _ _ (passed c .before .table-refusal .ensures) (passed c .if1 .left)
 
 same-length-3 : tie.Need-same-length-3
 same-length-3 c = search needs
@@ -38,8 +36,9 @@ same-length-5 c = search needs
 
 returns-2 : tie.Need-returns-2
 returns-2 c =
-    let a = c .before .before .before .before .before .before .before .before .before .before .before .before .before .before .before .before .before .args in
-    gives-passed _ (tables (a .tasks .now) (a .promises .now)) (c .before .before .before .before .before .before .before .before .before .before .before .table-refusal .ensures) (c .before .before .before .before .before .before .before .before .before .before .if1 .left) (c .before .before .before .before .before .before .raw-get .ensures)
+    let done = c .before .before .before .before in
+    let p = passed (done .before) in
+    gives-passed _ _ (p .before .table-refusal .ensures) (p .if1 .left) (done .raw-get .ensures)
 
 pub step-get-spec : {M : Type 1} → statement M
 step-get-spec =

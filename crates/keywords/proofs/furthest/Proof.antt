@@ -3,7 +3,8 @@
 use mathlib.Core.List.{List, [], _∷_}
 use mathlib.Core.Path.{_≡_}
 use Prim.Native.Nat.{ℕ}
-use Rattle.keywords.specs.declared.Keyword.the-variants.{Open, New, Set, Get, Async, End}
+use Rattle.keywords.specs.declared.Keyword.the-variants.{Open, Step}
+use Rattle.kinds.specs.declared.Kind.the-variants.{New, Set, Get, Async, End}
 use Rattle.keywords.specs.Keywords.{longest, keywords, textOf}
 use Rattle.keywords.proofs.KeywordLaws.{longest-more, longest-none}
 use borrow.Author.Needs.{needs}
@@ -68,42 +69,42 @@ most-requires-6 c κs = search needs
 abbrev field-1 : tie.After-most → List ℕ
 field-1 c = c .before .before .before .before .args .field .now
 
-far-end : (c : tie.After-most) → c .most .result ≡ longest (field-1 c) (End ∷ [])
+far-end : (c : tie.After-most) → c .most .result ≡ longest (field-1 c) (Step End ∷ [])
 unfolding textOf
-far-end c = longest-more _ End _ _ _ _ (c .most .ensures) (c .before .common .ensures) (longest-none _)
+far-end c = longest-more _ (Step End) _ _ _ _ (c .most .ensures) (c .before .common .ensures) (longest-none _)
 
 abbrev field-2 : tie.After-most2 → List ℕ
 field-2 c = field-1 (c .before .before .before)
 
-far-async : (c : tie.After-most2) → c .most2 .result ≡ longest (field-2 c) (Async ∷ End ∷ [])
+far-async : (c : tie.After-most2) → c .most2 .result ≡ longest (field-2 c) (Step Async ∷ Step End ∷ [])
 unfolding textOf
-far-async c = longest-more _ Async _ _ _ _ (c .most2 .ensures) (c .before .common2 .ensures) (far-end (c .before .before .before))
+far-async c = longest-more _ (Step Async) _ _ _ _ (c .most2 .ensures) (c .before .common2 .ensures) (far-end (c .before .before .before))
 
 abbrev field-3 : tie.After-most3 → List ℕ
 field-3 c = field-2 (c .before .before .before)
 
-far-get : (c : tie.After-most3) → c .most3 .result ≡ longest (field-3 c) (Get ∷ Async ∷ End ∷ [])
+far-get : (c : tie.After-most3) → c .most3 .result ≡ longest (field-3 c) (Step Get ∷ Step Async ∷ Step End ∷ [])
 unfolding textOf
-far-get c = longest-more _ Get _ _ _ _ (c .most3 .ensures) (c .before .common3 .ensures) (far-async (c .before .before .before))
+far-get c = longest-more _ (Step Get) _ _ _ _ (c .most3 .ensures) (c .before .common3 .ensures) (far-async (c .before .before .before))
 
 abbrev field-4 : tie.After-most4 → List ℕ
 field-4 c = field-3 (c .before .before .before)
 
-far-set : (c : tie.After-most4) → c .most4 .result ≡ longest (field-4 c) (Set ∷ Get ∷ Async ∷ End ∷ [])
+far-set : (c : tie.After-most4) → c .most4 .result ≡ longest (field-4 c) (Step Set ∷ Step Get ∷ Step Async ∷ Step End ∷ [])
 unfolding textOf
-far-set c = longest-more _ Set _ _ _ _ (c .most4 .ensures) (c .before .common4 .ensures) (far-get (c .before .before .before))
+far-set c = longest-more _ (Step Set) _ _ _ _ (c .most4 .ensures) (c .before .common4 .ensures) (far-get (c .before .before .before))
 
 abbrev field-5 : tie.After-most5 → List ℕ
 field-5 c = field-4 (c .before .before .before)
 
-far-new : (c : tie.After-most5) → c .most5 .result ≡ longest (field-5 c) (New ∷ Set ∷ Get ∷ Async ∷ End ∷ [])
+far-new : (c : tie.After-most5) → c .most5 .result ≡ longest (field-5 c) (Step New ∷ Step Set ∷ Step Get ∷ Step Async ∷ Step End ∷ [])
 unfolding textOf
-far-new c = longest-more _ New _ _ _ _ (c .most5 .ensures) (c .before .common5 .ensures) (far-set (c .before .before .before))
+far-new c = longest-more _ (Step New) _ _ _ _ (c .most5 .ensures) (c .before .common5 .ensures) (far-set (c .before .before .before))
 
 abbrev field-6 : tie.After-most6 → List ℕ
 field-6 c = field-5 (c .before .before .before)
 
-far-open : (c : tie.After-most6) → c .most6 .result ≡ longest (field-6 c) (Open ∷ New ∷ Set ∷ Get ∷ Async ∷ End ∷ [])
+far-open : (c : tie.After-most6) → c .most6 .result ≡ longest (field-6 c) (Open ∷ Step New ∷ Step Set ∷ Step Get ∷ Step Async ∷ Step End ∷ [])
 unfolding textOf
 far-open c = longest-more _ Open _ _ _ _ (c .most6 .ensures) (c .before .common6 .ensures) (far-new (c .before .before .before))
 

@@ -1,6 +1,7 @@
 use mathlib.Core.Path.{refl}
 use lib.ListN.{length}
 use Rattle.lines.specs.Lines.{heldLine}
+use Rattle.rules.specs.Tables.{tables}
 use Rattle.lines.proofs.LineLaws.{lentWell-true, judged-count, deed-read, line-fits, enters-of}
 use native.Mathlib.Omega.{arith}
 use borrow.Author.Needs.{needs}
@@ -11,7 +12,7 @@ judge-held-requires : tie.Need-judge-held-requires
 judge-held-requires c κs = search needs
 
 act-requires : tie.Need-act-requires
-act-requires c κs = let w = lentWell-true _ _ _ _ _ _ (c .before .before .before .before .before .before .before .before .before .before .before .before .before .before .pre .0) in (judged-count _ _ _ _ (c .before .before .before .before .before .before .judge-held .ensures) (c .before .before .before .before .before .before .before .before .before .before .before .before .before .before .pre .1), w .session-is, w .tasks-are, w .promises-are)
+act-requires c κs = let w = lentWell-true _ _ _ _ _ (c .before .before .before .before .before .before .before .before .before .before .before .before .before .before .pre .0) in (judged-count _ _ _ _ (c .before .before .before .before .before .before .judge-held .ensures) (c .before .before .before .before .before .before .before .before .before .before .before .before .before .before .pre .1), w .session-is, w .tasks-are, w .promises-are)
 
 put-answer-requires : tie.Need-put-answer-requires
 put-answer-requires c κs = search needs
@@ -34,10 +35,10 @@ same-length-5 c = search needs
 returns : tie.Need-returns
 returns c =
     let a = c .before .before .before .before .before .before .before .before .before .before .before .before .before .before .before .before .before .before .before .before .before .before .before .before .before .before .args in
-    let w = lentWell-true _ _ _ _ _ _ (c .before .before .before .before .before .before .before .before .before .before .before .before .before .before .before .before .before .before .before .before .before .before .before .before .before .before .pre .0) in
-    let fit = line-fits (heldLine (a .line .now) (a .have)) (a .session) (a .tasks .now) (a .promises .now) (a .report .now) (a .number) (w .most) in
+    let w = lentWell-true _ _ _ _ _ (c .before .before .before .before .before .before .before .before .before .before .before .before .before .before .before .before .before .before .before .before .before .before .before .before .before .before .pre .0) in
+    let fit = line-fits (heldLine (a .line .now) (a .have)) (a .session) (tables (a .tasks .now) (a .promises .now)) (a .report .now) (a .number) (w .most) in
     enters-of (a .number) (a .report .now) (a .answer .now)
-    (deed-read (heldLine (a .line .now) (a .have)) (a .list .now) _ _ (a .session) (a .tasks .now) (a .promises .now) (length (a .report .now)) (c .before .before .before .before .before .before .before .before .before .before .before .before .before .before .before .before .before .before .judge-held .ensures) (c .before .before .before .before .before .before .before .before .before .before .before .before .before .before .before .before .before .before .before .before .before .before .before .before .before .before .pre .1)) (c .before .before .before .before .before .before .before .before .before .before .before .act .ensures)
+    (deed-read (heldLine (a .line .now) (a .have)) (a .list .now) _ _ (a .session) (tables (a .tasks .now) (a .promises .now)) (length (a .report .now)) (c .before .before .before .before .before .before .before .before .before .before .before .before .before .before .before .before .before .before .judge-held .ensures) (c .before .before .before .before .before .before .before .before .before .before .before .before .before .before .before .before .before .before .before .before .before .before .before .before .before .before .pre .1)) (c .before .before .before .before .before .before .before .before .before .before .before .act .ensures)
     (omega (arith, fit, w .room)) (c .before .before .put-answer .ensures) refl refl
 
 pub answer-line-spec : {M : Type 1} → statement M

@@ -19,7 +19,7 @@ same-length-4 : tie.Need-same-length-4
 same-length-4 c = search needs
 
 returns : tie.Need-returns
-returns c = let a = c .before .before .before .before .before .before .before .before .before .before .before .before .before .before .before .before .before .before .args in replied-whole (a .line .now) (a .number) (a .session) (a .tasks .now) (a .promises .now) (a .report .now) (a .answer .now) (c .before .before .before .before .before .before .before .before .reply .ensures)
+returns c = replied-whole _ _ _ _ _ _ (c .before .before .before .before .before .before .before .before .reply .ensures)
 
 pub enter-spec : {M : Type 1} → statement M
 enter-spec =

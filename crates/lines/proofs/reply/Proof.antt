@@ -29,9 +29,15 @@ returns : tie.Need-returns
 unfolding entryOf
 returns c = rw (← c .before .before .before .before .before .before .before .before .before .before .before .before .before .before .before .before .lent-well .ensures, c .before .before .before .before .before .before .before .before .before .before .before .before .before .before .before .if1 .taken) (c .before .before .before .before .before .before .before .before .before .answer-line .ensures)
 
+same-length-5 : tie.Need-same-length-5
+same-length-5 c = search needs
+
+same-length-6 : tie.Need-same-length-6
+same-length-6 c = search needs
+
 returns-2 : tie.Need-returns-2
 unfolding entryOf
-returns-2 c = rw (← c .before .lent-well .ensures, c .if1 .left) (record { number = refl; session = refl; bytes = refl; tasks = refl; promises = refl; report = refl; answer = refl })
+returns-2 c = rw (← c .before .lent-well .ensures, c .if1 .left) (record { number = refl; session = refl; bytes = refl; after = refl; report = refl; answer = refl })
 
 pub reply-spec : {M : Type 1} → statement M
 reply-spec =
@@ -45,4 +51,6 @@ reply-spec =
     same-length-3
     same-length-4
     returns
+    same-length-5
+    same-length-6
     returns-2)

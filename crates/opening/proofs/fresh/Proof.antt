@@ -1,5 +1,6 @@
-use mathlib.Core.Path.{sym, _∙_}
+use mathlib.Core.Path.{sym, ap₂, _∙_}
 use borrow.Author.Tests.{eq-eqb, ne-eqb}
+use Rattle.rules.specs.Tables.{tables}
 use Rattle.rules.specs.Sessions.{freshened}
 use borrow.Author.Needs.{needs}
 use Rattle.opening.proofs.fresh.Statement.{statement}
@@ -10,7 +11,7 @@ fresh-refusal-requires c κs = search needs
 
 returns : tie.Need-returns
 unfolding freshened
-returns c = record { number = c .before .fresh-refusal .ensures; tasks = rw (← c .before .fresh-refusal .ensures, ne-eqb _ 0 (c .if1 .taken)); promises = rw (← c .before .fresh-refusal .ensures, ne-eqb _ 0 (c .if1 .taken)) }
+returns c = record { number = c .before .fresh-refusal .ensures; after = rw (← c .before .fresh-refusal .ensures, ne-eqb _ 0 (c .if1 .taken)) }
 
 unused-requires : tie.Need-unused-requires
 unused-requires c κs = search needs
@@ -39,12 +40,17 @@ same-length-2 c = search needs
 returns-2 : tie.Need-returns-2
 unfolding freshened
 returns-2 c =
-    let r = c .before .before .before .before .before .before .before .before .before .before .before .before .before .before .before .before .fresh-refusal .ensures in
-    let z = c .before .before .before .before .before .before .before .before .before .before .before .before .before .before .before .if1 .left in
+    let unmade = c .before .before in
+    let readied = unmade .before .before .before .before .before in
+    let emptied = readied .before .before .before .before .before in
+    let passed = emptied .before .before .before in
+    let r = passed .before .fresh-refusal .ensures in
     record {
-      number = sym z ∙ r;
-      tasks = rw (← r, eq-eqb _ 0 z) (c .before .before .before .before .before .before .before .put .ensures ∙ rw (c .before .before .before .before .before .before .before .before .before .before .before .before .fill .ensures, c .before .before .before .before .before .before .before .before .before .before .before .before .before .unused .ensures, c .before .before .before .before .before .before .before .before .ready .ensures));
-      promises = rw (← r, eq-eqb _ 0 z) (c .before .before .fill2 .ensures ∙ rw (c .before .before .before .unmade .ensures));
+      number = sym (passed .if1 .left) ∙ r;
+      after =
+          rw (← r, eq-eqb _ 0 (passed .if1 .left))
+          (ap₂ tables (readied .put .ensures ∙ rw (emptied .fill .ensures, emptied .before .unused .ensures, readied .before .ready .ensures))
+          (unmade .fill2 .ensures ∙ rw (unmade .before .unmade .ensures)));
     }
 
 pub fresh-spec : {M : Type 1} → statement M

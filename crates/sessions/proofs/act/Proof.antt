@@ -5,6 +5,10 @@ use borrow.Author.Needs.{needs}
 use Rattle.sessions.proofs.act.Statement.{statement}
 use Rattle.sessions.proofs.act.Tie as tie
 
+-- the place that the needs speak of
+abbrev start : tie.After-session → tie.Start
+start c = c .before .before .before .before .before .before
+
 enum-told : tie.Need-enum-told
 enum-told c = search needs
 
@@ -21,7 +25,12 @@ cast-in-part-2 : tie.Need-cast-in-part-2
 cast-in-part-2 c = search needs
 
 in-part-requires : tie.Need-in-part-requires
-in-part-requires c κs = let g = c .before .before .before .before .session .given in let h = inSession-open (g .0 .0) (g .0 .1 .0) (rw (g .1) at (c .before .before .before .before .before .before .before .before .before .before .pre .1)) in (c .before .before .before .before .before .before .before .before .before .before .pre .0, omega (arith, h .0, c .before .before .before .before .before .before .before .before .before .before .pre .2), omega (arith, h .1, c .before .before .before .before .before .before .before .before .before .before .pre .3))
+in-part-requires c κs =
+    let chosen = c .before .before .before .before in
+    let pre = start chosen .pre in
+    let g = chosen .session .given in
+    let h = inSession-open (g .0 .0) (g .0 .1 .0) (rw (g .1) at (pre .1)) in
+    (pre .0, omega (arith, h .0, pre .2), omega (arith, h .1, pre .3))
 
 same-length : tie.Need-same-length
 same-length c = search needs
@@ -30,7 +39,10 @@ same-length-2 : tie.Need-same-length-2
 same-length-2 c = search needs
 
 returns : tie.Need-returns
-returns c = let a = c .before .before .before .before .before .before .before .before .before .before .before .before .before .args in rw (c .before .before .before .before .before .before .before .enum-told .given .1) (does-unopened (a .form) _ (a .tasks .now) (a .promises .now) (a .report .now) _ (c .before .before .before .before .unopened .ensures))
+returns c =
+    let done = c .before .before .before .before in
+    let told = done .before .before .before in
+    rw (told .enum-told .given .1) (does-unopened _ _ _ _ _ (done .unopened .ensures))
 
 same-length-3 : tie.Need-same-length-3
 same-length-3 c = search needs
@@ -42,7 +54,10 @@ same-length-5 : tie.Need-same-length-5
 same-length-5 c = search needs
 
 returns-2 : tie.Need-returns-2
-returns-2 c = let a = c .before .before .before .before .before .before .before .before .before .before .before .before .before .before .before .before .before .args in rw (c .before .before .before .before .before .before .before .before .before .before .before .session .given .1) (does-open (a .form) _ (a .tasks .now) (a .promises .now) (a .report .now) _ _ _ (c .before .before .before .before .before .before .in-part .ensures) refl refl)
+returns-2 c =
+    let done = c .before .before .before .before .before .before in
+    let chosen = done .before .before .before .before .before in
+    rw (chosen .session .given .1) (does-open _ _ _ _ _ _ _ (done .in-part .ensures) refl refl)
 
 pub act-spec : {M : Type 1} → statement M
 act-spec =

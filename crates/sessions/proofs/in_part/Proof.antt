@@ -1,8 +1,16 @@
 use native.Mathlib.Nat.{sub-zero}
+use Rattle.rules.specs.Tables.{Tables, tables}
 use Rattle.sessions.proofs.SessionLaws.{inPart-of}
 use borrow.Author.Needs.{needs}
 use Rattle.sessions.proofs.in_part.Statement.{statement}
 use Rattle.sessions.proofs.in_part.Tie as tie
+
+-- the places that the needs speak of
+abbrev start : tie.After-in-open-arg3 → tie.Start
+start c = c .before .before .before .before .before .before .before
+
+abbrev lent : tie.Start → Tables
+lent c = tables (c .args .tasks .now) (c .args .promises .now)
 
 sub-in-open : tie.Need-sub-in-open
 sub-in-open c = search needs
@@ -36,8 +44,9 @@ same-length-3 c = search needs
 
 returns : tie.Need-returns
 returns c =
-    let a = c .before .before .before .before .before .before .before .before .before .before .before .before .before .before .args in
-    rw (sub-zero (a .t), sub-zero (a .p)) (inPart-of (a .t) (a .p) (a .tasks .now) (a .promises .now) (rw (sub-zero (a .t), sub-zero (a .p)) at (c .before .before .before .before .before .before .in-open .ensures)))
+    let done = c .before .before .before .before .before .before in
+    let a = start (done .before) .args in
+    rw (sub-zero (a .t), sub-zero (a .p)) (inPart-of (a .t) (a .p) (lent (start (done .before))) (rw (sub-zero (a .t), sub-zero (a .p)) at (done .in-open .ensures)))
 
 pub in-part-spec : {M : Type 1} → statement M
 in-part-spec =

@@ -2,21 +2,37 @@
 -- the part of the outcome that has its name. Assumes nothing.
 use mathlib.Core.List.{[]}
 use Prim.Native.Nat.{_≤_}
-use mathlib.Core.Path.{sym, ap, _∙_}
+use mathlib.Core.Path.{sym, ap, ap₂, _∙_}
 use lib.ListN.{length}
 use Rattle.words.specs.Words.{small}
 use Rattle.words.specs.Lists.{is, places}
-use Rattle.words.proofs.WordLaws.{inBounds-true}
 use Rattle.words.proofs.ListLaws.{over-sets, places-length}
-use Rattle.rules.specs.Tables.{tables}
+use Rattle.rules.specs.Tables.{Tables, tables, withWords}
 use Rattle.rules.specs.Refusals.{ownRows}
 use Rattle.rules.specs.declared.Answer.the-variants.{Set}
+use Rattle.rules.proofs.BoundsLaws.{Bounds, inBounds-true}
 use Rattle.rules.proofs.RefusalLaws.{actorRows-none, ownRows-none}
 use Rattle.rules.proofs.GivesLaws.{gives-refused, gives-passed}
 use native.Mathlib.Omega.{arith}
 use borrow.Author.Needs.{needs}
 use Rattle.setting.proofs.raw_set.Statement.{statement}
 use Rattle.setting.proofs.raw_set.Tie as tie
+
+-- the places that the needs speak of
+abbrev start : tie.After-refusal → tie.Start
+start c = c .before .before .before .before .before .before
+
+abbrev asked : tie.After-waits-on → tie.After-refusal
+asked c = c .before .before
+
+abbrev word : tie.After-collect-word → tie.After-waits-on
+word c = c .before .before .before
+
+abbrev lent : tie.Start → Tables
+lent c = tables (c .args .tasks .now) (c .args .promises .now)
+
+bounds : (c : tie.Start) → Bounds small (length (c .args .report .now)) (lent c)
+bounds c = inBounds-true small _ _ (c .pre)
 
 refusal-requires : tie.Need-refusal-requires
 refusal-requires c κs = search needs
@@ -33,24 +49,19 @@ same-length-2 c = search needs
 returns : tie.Need-returns
 returns c =
     let stopped = c .before .before in
-    let asked = stopped .before in
-    let start = asked .before .before .before .before .before .before in
-    rw (c .refused .ensures) (gives-refused _ (tables (start .args .tasks .now) (start .args .promises .now)) _ _ (asked .refusal .ensures) (stopped .if1 .taken))
+    rw (c .refused .ensures) (gives-refused _ _ _ _ (stopped .before .refusal .ensures) (stopped .if1 .taken))
 
 waits-on-requires : tie.Need-waits-on-requires
 waits-on-requires c κs =
-    let asked = c .before in
-    let start = asked .before .before .before .before .before .before in
-    let a = start .args in
-    let b = inBounds-true small (length (a .tasks .now)) (length (a .promises .now)) (length (a .report .now)) (start .pre) in
-    let f = actorRows-none (a .tasks .now) (a .t) (ownRows (small .base) (a .promises .now) (a .t) (a .p)) (sym (asked .refusal .ensures) ∙ c .if1 .left) in
-    omega (arith, b .promises, ownRows-none (small .base) (a .promises .now) (a .t) (a .p) [] (f .1) .0)
+    let at = start (c .before) in
+    let a = at .args in
+    let own = ownRows (small .base) (a .promises .now) (a .t) (a .p) in
+    let f = actorRows-none (a .tasks .now) (a .t) own (sym (c .before .refusal .ensures) ∙ c .if1 .left) in
+    omega (arith, bounds at .promises, ownRows-none (small .base) (a .promises .now) (a .t) (a .p) [] (f .1) .0)
 
 collect-word-requires : tie.Need-collect-word-requires
 collect-word-requires c κs =
-    let start = c .before .before .before .before .before .before .before .before .before .before in
-    let a = start .args in
-    let b = inBounds-true small (length (a .tasks .now)) (length (a .promises .now)) (length (a .report .now)) (start .pre) in
+    let b = bounds (start (asked (c .before .before))) in
     (omega (arith, b .room), omega (arith, b .tasks))
 
 replace-word-requires : tie.Need-replace-word-requires
@@ -62,11 +73,8 @@ put-requires c κs = search needs
 cast-woken : tie.Need-cast-woken
 cast-woken c =
     let found = c .before .before .before .before .before .before .before .before .before .before in
-    let word = found .before .before .before in
-    let start = word .before .before .before .before .before .before .before .before in
-    let a = start .args in
-    let b = inBounds-true small (length (a .tasks .now)) (length (a .promises .now)) (length (a .report .now)) (start .pre) in
-    omega (arith, b .tasks, found .collect-word .ensures .0, places-length (is (word .waits-on .result)) 0 (a .tasks .now))
+    let at = start (asked (word found)) in
+    omega (arith, bounds at .tasks, found .collect-word .ensures .0, places-length (is (word found .waits-on .result)) 0 (at .args .tasks .now))
 
 same-length-3 : tie.Need-same-length-3
 same-length-3 c = search needs
@@ -82,20 +90,17 @@ returns-2 c =
     let stored = c .before .before in
     let woke = stored .before .before .before .before in
     let found = woke .before .before .before .before in
-    let word = found .before .before .before in
-    let passed = word .before in
-    let asked = passed .before in
-    let start = asked .before .before .before .before .before .before in
-    let a = start .args in
-    let b = inBounds-true small (length (a .tasks .now)) (length (a .promises .now)) (length (a .report .now)) (start .pre) in
-    let woken = places (is (word .waits-on .result)) 0 (a .tasks .now) in
-    let room : length woken ≤ length (a .report .now) = omega (arith, b .room, places-length (is (word .waits-on .result)) 0 (a .tasks .now)) in
-    gives-passed _ (tables (a .tasks .now) (a .promises .now)) (asked .refusal .ensures) (passed .if1 .left)
-    (rw (← word .waits-on .ensures)
+    let w = word found in
+    let at = start (asked w) in
+    let a = at .args in
+    let woken = places (is (w .waits-on .result)) 0 (a .tasks .now) in
+    let l = places-length (is (w .waits-on .result)) 0 (a .tasks .now) in
+    let room : length woken ≤ length (a .report .now) = omega (arith, bounds at .room, l) in
+    gives-passed _ _ (asked w .refusal .ensures) (w .before .if1 .left)
+    (rw (← w .waits-on .ensures)
     (record {
       answer = ap Set (omega (arith, found .collect-word .ensures .0));
-      tasks = woke .replace-word .ensures;
-      promises = stored .put .ensures;
+      after = ap₂ (withWords (lent at)) (woke .replace-word .ensures) (stored .put .ensures);
       report = found .collect-word .ensures .1 ∙ sym (over-sets woken (a .report .now) room);
     }))
 

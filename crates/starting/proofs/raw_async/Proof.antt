@@ -1,14 +1,14 @@
 -- `starting::raw_async` meets its contract: the first bad place decides between a refusal, which leaves all as it was, and the
 -- stores of the rules; it is at most the number of promises, so it fits. Assumes nothing.
-use mathlib.Core.Path.{refl, sym, _∙_}
+use mathlib.Core.Path.{refl, sym, ap₂, _∙_}
 use lib.ListN.{length}
 use borrow.Author.Tests.{lt-ltb, le-ltb}
 use Rattle.words.specs.Words.{small}
-use Rattle.words.proofs.WordLaws.{inBounds-true}
 use Rattle.words.proofs.ListLaws.{over-none}
-use Rattle.rules.specs.Tables.{tables}
+use Rattle.rules.specs.Tables.{Tables, tables, withWords}
 use Rattle.rules.specs.Refusals.{childRows}
 use Rattle.rules.specs.Steps.{started}
+use Rattle.rules.proofs.BoundsLaws.{Fitting, sizesFit-true}
 use Rattle.rules.proofs.RefusalLaws.{actorRows-none, childRows-none}
 use Rattle.rules.proofs.PlaceLaws.{firstBad-place}
 use Rattle.rules.proofs.GivesLaws.{gives-refused, gives-passed}
@@ -16,6 +16,19 @@ use native.Mathlib.Omega.{arith}
 use borrow.Author.Needs.{needs}
 use Rattle.starting.proofs.raw_async.Statement.{statement}
 use Rattle.starting.proofs.raw_async.Tie as tie
+
+-- the places that the needs speak of
+abbrev start : tie.After-refusal → tie.Start
+start c = c .before .before .before .before .before .before
+
+abbrev passed : tie.After-first-bad → tie.Else1
+passed c = c .before .before
+
+abbrev lent : tie.Start → Tables
+lent c = tables (c .args .tasks .now) (c .args .promises .now)
+
+fitting : (c : tie.Start) → Fitting small (lent c)
+fitting c = sizesFit-true small _ (c .pre)
 
 refusal-requires : tie.Need-refusal-requires
 refusal-requires c κs = search needs
@@ -27,10 +40,7 @@ same-length-2 : tie.Need-same-length-2
 same-length-2 c = search needs
 
 returns : tie.Need-returns
-returns c =
-    let asked = c .before in
-    let start = asked .before .before .before .before .before .before .before in
-    gives-refused _ (tables (start .args .tasks .now) (start .args .promises .now)) _ _ (asked .refusal .ensures) (c .if1 .taken)
+returns c rs = gives-refused _ _ _ rs (c .before .refusal .ensures) (c .if1 .taken)
 
 first-bad-requires : tie.Need-first-bad-requires
 first-bad-requires c κs = search needs
@@ -38,10 +48,9 @@ first-bad-requires c κs = search needs
 refused-entry-requires : tie.Need-refused-entry-requires
 refused-entry-requires c κs =
     let looked = c .before .before in
-    let start = looked .before .before .before .before .before .before .before .before .before .before in
-    let a = start .args in
-    let b = inBounds-true small (length (a .tasks .now)) (length (a .promises .now)) (length (a .report .now)) (start .pre) in
-    omega (arith, b .promises, looked .first-bad .ensures, firstBad-place (small .base) (a .promises .now) (a .t) (a .list .now) (length (a .list .now)))
+    let at = start (passed looked .before) in
+    let a = at .args in
+    omega (arith, fitting at .promises, looked .first-bad .ensures, firstBad-place (small .base) (a .promises .now) (a .t) (a .list .now) (length (a .list .now)))
 
 same-length-3 : tie.Need-same-length-3
 same-length-3 c = search needs
@@ -51,27 +60,24 @@ same-length-4 c = search needs
 
 returns-2 : tie.Need-returns-2
 unfolding started
-returns-2 c =
+returns-2 c rs =
     let bad = c .before .before in
     let looked = bad .before in
-    let passed = looked .before .before in
-    let asked = passed .before in
-    let start = asked .before .before .before .before .before .before .before in
-    gives-passed _ (tables (start .args .tasks .now) (start .args .promises .now)) (asked .refusal .ensures) (passed .if1 .left)
-    (rw (← looked .first-bad .ensures, lt-ltb _ (length (start .args .list .now)) (bad .if2 .taken)) (record { answer = c .refused-entry .ensures; tasks = refl; promises = refl; report = sym (over-none _) }))
+    let p = passed looked in
+    gives-passed _ _ (p .before .refusal .ensures) (p .if1 .left)
+    (rw (← looked .first-bad .ensures, lt-ltb _ (length (start (p .before) .args .list .now)) (bad .if2 .taken))
+    (record { answer = c .refused-entry .ensures; after = refl; report = sym (over-none rs) }))
 
 put-requires : tie.Need-put-requires
 put-requires c κs = search needs
 
 owned-by-requires : tie.Need-owned-by-requires
 owned-by-requires c κs =
-    let passed = c .before .before .before .before .before .before .before in
-    let asked = passed .before in
-    let start = asked .before .before .before .before .before .before .before in
-    let a = start .args in
-    let b = inBounds-true small (length (a .tasks .now)) (length (a .promises .now)) (length (a .report .now)) (start .pre) in
-    let f = actorRows-none (a .tasks .now) (a .t) (childRows (a .tasks .now) (a .c)) (sym (asked .refusal .ensures) ∙ passed .if1 .left) in
-    omega (arith, b .tasks, childRows-none (a .tasks .now) (a .c) (f .1) .0)
+    let p = passed (c .before .before .before .before .before) in
+    let at = start (p .before) in
+    let a = at .args in
+    let f = actorRows-none (a .tasks .now) (a .t) (childRows (a .tasks .now) (a .c)) (sym (p .before .refusal .ensures) ∙ p .if1 .left) in
+    omega (arith, fitting at .tasks, childRows-none (a .tasks .now) (a .c) (f .1) .0)
 
 give-requires : tie.Need-give-requires
 give-requires c κs = search needs
@@ -84,18 +90,16 @@ same-length-6 c = search needs
 
 returns-3 : tie.Need-returns-3
 unfolding started
-returns-3 c =
+returns-3 c rs =
     let gave = c .before .before in
     let word = gave .before .before in
     let stored = word .before .before .before in
     let good = stored .before .before in
     let looked = good .before in
-    let passed = looked .before .before in
-    let asked = passed .before in
-    let start = asked .before .before .before .before .before .before .before in
-    gives-passed _ (tables (start .args .tasks .now) (start .args .promises .now)) (asked .refusal .ensures) (passed .if1 .left)
+    let p = passed looked in
+    gives-passed _ _ (p .before .refusal .ensures) (p .if1 .left)
     (rw (← looked .first-bad .ensures, le-ltb _ _ (good .if2 .left), ← word .owned-by .ensures)
-    (record { answer = refl; tasks = stored .put .ensures; promises = gave .give .ensures; report = sym (over-none _) }))
+    (record { answer = refl; after = ap₂ (withWords (lent (start (p .before)))) (stored .put .ensures) (gave .give .ensures); report = sym (over-none rs) }))
 
 pub raw-async-spec : {M : Type 1} → statement M
 raw-async-spec =

@@ -19,7 +19,7 @@ part-raw-record-end : tie.Need-part-raw-record-end
 part-raw-record-end c = search needs
 
 raw-record-requires : tie.Need-raw-record-requires
-raw-record-requires c κs = rest-bounds small _ _ (c .before .before .before .before .before .before .before .before .args .at) (c .before .before .before .before .before .before .before .before .args .report .now) (c .before .before .before .before .before .before .before .before .pre .0)
+raw-record-requires c κs = rest-bounds small _ (c .before .before .before .before .before .before .before .before .args .at) (c .before .before .before .before .before .before .before .before .args .report .now) (c .before .before .before .before .before .before .before .before .pre .0)
 
 mul-tell : tie.Need-mul-tell
 mul-tell c = search needs
