@@ -9,13 +9,13 @@ use lib.Seq.{length-take-le}
 use borrow.Rule.Slice.PartMut.{putMid}
 use Rattle.words.proofs.BoolLaws.{clash}
 use Rattle.rules.specs.Tables.{Tables, tables}
-use Rattle.buffers.proofs.BufferLaws.{rest-lent}
-use Rattle.gather.specs.Gather.{isLast}
-use Rattle.sessions.specs.declared.Session.the-variants.{Unopened}
-use Rattle.serving.specs.declared.Served.{Served}
-use Rattle.serving.specs.Serving.{Turn, turnOf, Serves}
-use Rattle.serving.specs.Input.{Desk, opening, feed, ended, Takes}
-use Rattle.serving.proofs.Theorems.{serve-takes, opening-buffered, last-is-last}
+use Rattle.text_buffers.proofs.BufferLaws.{rest-lent}
+use Rattle.line_gather.specs.Gather.{isLast}
+use Rattle.line_session.specs.declared.Session.the-variants.{Unopened}
+use Rattle.line_serving.specs.declared.Served.{Served}
+use Rattle.line_serving.specs.Serving.{Turn, turnOf, Serves}
+use Rattle.line_serving.specs.Input.{Desk, opening, feed, ended, Takes}
+use Rattle.line_serving.proofs.Theorems.{serve-takes, opening-buffered, last-is-last}
 use Rattle.bench.specs.declared.State.{State}
 use Rattle.bench.specs.Carrying.{Carries, Waiting, At, Fed, Ends}
 

@@ -13,8 +13,8 @@ use mathlib.Core.List.{List, _++_}
 use mathlib.Core.Bool.{true}
 use lib.ListN.{take, drop}
 use Rattle.rules.specs.Tables.{Tables}
-use Rattle.serving.specs.Serving.{Turn}
-use Rattle.serving.specs.Input.{Desk, feed, ended, Buffered}
+use Rattle.line_serving.specs.Serving.{Turn}
+use Rattle.line_serving.specs.Input.{Desk, feed, ended, Buffered}
 use Rattle.bench.specs.declared.State.{State}
 
 pub record Carries (t : Turn) (n : ℕ) (o : List ℕ) (r : State) (x : List ℕ) (st : Tables) (rs out : List ℕ) : Type 0 where

@@ -2,15 +2,15 @@
 // It reads blocks and has each line's answer written straight after the answers that wait in the output array. These are put out where less than an answer
 // line's room is left and before every read, so that a partner on a pipe is never left waiting. What is decided about lines stands in the crate serving; what is
 // written to standard output is held to stdout, and not proved.
-use sessions::Session;
+use line_session::Session;
 ghost use mathlib.Core.Path.{_≡_};
 ghost use Prim.Native.Nat.{ℕ, _+_, _≤_, _<_};
 ghost use mathlib.Core.Bool.{true};
 ghost use lib.ListN.{length, drop};
 ghost use Rattle.rules.specs.Tables.{tables as tablesOf};
-ghost use Rattle.sessions.specs.declared.Session.the-variants.{Unopened};
-ghost use Rattle.serving.specs.Serving.{turnOf};
-ghost use Rattle.serving.specs.Input.{Desk};
+ghost use Rattle.line_session.specs.declared.Session.the-variants.{Unopened};
+ghost use Rattle.line_serving.specs.Serving.{turnOf};
+ghost use Rattle.line_serving.specs.Input.{Desk};
 ghost use Rattle.bench.specs.Carrying.{Carries, At, Fed, Ends};
 
 // Where the program is: the place in the block, how many bytes of the line that has begun were counted, how many lines were answered, the session value, how many
@@ -87,7 +87,7 @@ fn serve_line(
     let s = with_room(out, was);
     let used = s.used;
     let before = s.session;
-    let served = serving::serve(
+    let served = line_serving::serve(
         block,
         s.from,
         line,
@@ -161,7 +161,7 @@ fn finish(
     requires { ⌜ (s .used ≤ length (now out)) × (length (now out) ≡ 32768) ⌝ }
     ensures { λ r. ⌜ ((d : Desk) → At d s (now (line .entry)) (tablesOf (now (tasks .entry)) (now (promises .entry))) (now (report .entry)) (now (out .entry)) → s .going ≡ true → Ends d (tablesOf (now (tasks .exit)) (now (promises .exit))) (now (report .exit))) ⌝ }
 {
-    if gather::is_last(s.have) {
+    if line_gather::is_last(s.have) {
         let last = serve_block(b"\n", line, tasks, promises, report, out, s);
         put_out(out, last);
     }

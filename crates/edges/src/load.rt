@@ -1,8 +1,8 @@
 // Loading. The board holds what is loaded: the task table from index 0 on, the promise table from 65 on and the report from 322 on.
 use crate::show;
 use check::same;
-use tables::at;
-use tables::put;
+use table_access::at;
+use table_access::put;
 ghost use Prim.Native.Nat.{_≤_};
 
 // How many words of the board are the task table, the promise table and the report, and whether the steps are those of a story.
@@ -52,7 +52,7 @@ pub fn store(words: &[u16], board: &mut [u16], start: usize)
 fn fresh_to(tasks: &mut [u16], promises: &mut [u16], board: &mut [u16]) -> u16 {
     fill(tasks, board, 0);
     fill(promises, board, 65);
-    let answer = opening::fresh(tasks, promises);
+    let answer = table_fresh::fresh(tasks, promises);
     store(tasks, board, 0);
     store(promises, board, 65);
     answer

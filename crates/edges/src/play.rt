@@ -8,12 +8,12 @@ use crate::read::list_of;
 use crate::read::step_of;
 use crate::show;
 use check::same;
-use ending::step_end;
-use getting::step_get;
-use making::step_new;
-use setting::step_set;
-use starting::step_async;
-use tables::at;
+use step_async::step_async;
+use step_end::step_end;
+use step_get::step_get;
+use step_new::step_new;
+use step_set::step_set;
+use table_access::at;
 ghost use Prim.Native.Nat.{_≤_};
 ghost use mathlib.Core.Path.{_≡_};
 ghost use lib.ListN.{length};
@@ -141,7 +141,7 @@ fn show_soundness(board: &[u16], s: Stage)
 {
     let m = s.tasks;
     let e = 65 + s.promises;
-    if sound::is_sound(&board[0..m], &board[65..e]) {
+    if table_sound::is_sound(&board[0..m], &board[65..e]) {
         show::text(b" sound,");
     } else {
         show::text(b" damaged,");

@@ -1,9 +1,9 @@
 // Reading a line: where its parts end, its numbers, and the case that it asks for.
 use check::same;
-use fields::run_end;
-use numbers::Num;
-use numbers::number;
-use tables::at;
+use table_access::at;
+use text_fields::run_end;
+use text_numbers::Num;
+use text_numbers::number;
 ghost use Prim.Native.Nat.{_+_, _≤_};
 ghost use lib.ListN.{length};
 

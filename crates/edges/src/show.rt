@@ -1,9 +1,9 @@
 // Printing: names, numbers, answers and words, on standard output.
 ghost use Prim.Native.Nat.{_+_, _≤_, _<_};
 ghost use lib.ListN.{length};
+use answer_words::layout;
 use rules::Answer;
 use rules::Part;
-use telling::layout;
 
 // The bytes as they are.
 pub fn text(bytes: &[u8]) {

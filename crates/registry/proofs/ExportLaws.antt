@@ -12,8 +12,8 @@ use Rattle.rules.specs.Answers.{numberOf}
 use Rattle.rules.specs.Steps.{Outcome}
 use Rattle.rules.specs.Contracts.{Gives}
 use Rattle.rules.specs.declared.Answer.{Answer}
-use Rattle.telling.specs.AnswerWords.{answerWords}
-use Rattle.telling.proofs.AnswerWordLaws.{answerWords-length}
+use Rattle.answer_words.specs.AnswerWords.{answerWords}
+use Rattle.answer_words.proofs.AnswerWordLaws.{answerWords-length}
 use Rattle.registry.specs.Exports.{Exported, exported, Exports}
 
 -- fewer than four words are lent for the answer

@@ -15,7 +15,7 @@ use Rattle.words.specs.Lists.{over}
 use Rattle.rules.specs.Tables.{Tables}
 use Rattle.rules.specs.Answers.{numberOf}
 use Rattle.rules.specs.Steps.{Outcome}
-use Rattle.telling.specs.AnswerWords.{answerWords}
+use Rattle.answer_words.specs.AnswerWords.{answerWords}
 
 pub record Exported : Type 0 where
   pub number : ℕ

@@ -1,12 +1,12 @@
 // The registry for C and Rust: the steps as exported functions on numbers and slices of 16-bit words. A slice passes as a pointer and a length. A step returns its
 // answer's number and writes four words to `answer`: the number, then the answer's values, 0 where it has none. A batch takes its records as five words each, and
 // returns the refusal of the call, or 0.
-use ending::step_end;
-use getting::step_get;
-use making::step_new;
-use setting::step_set;
-use starting::step_async;
-use telling::tell;
+use answer_words::tell;
+use step_async::step_async;
+use step_end::step_end;
+use step_get::step_get;
+use step_new::step_new;
+use step_set::step_set;
 ghost use mathlib.Core.Path.{_≡_};
 ghost use lib.ListN.{length};
 ghost use Rattle.words.specs.Words.{small};
@@ -14,7 +14,7 @@ ghost use Rattle.rules.specs.Tables.{tables as tablesOf};
 ghost use Rattle.rules.specs.Sound.{soundTest};
 ghost use Rattle.rules.specs.Steps.{step, step-new, step-set, step-get, step-async, step-end};
 ghost use Rattle.rules.specs.Sessions.{Freshens};
-ghost use Rattle.unpacking.specs.Flat.{flatly, Flats};
+ghost use Rattle.batch_words.specs.Flat.{flatly, Flats};
 ghost use Rattle.registry.specs.Exports.{exported, Exports};
 
 // Whether the tables are sound.
@@ -22,7 +22,7 @@ ghost use Rattle.registry.specs.Exports.{exported, Exports};
 pub extern "C" fn registry_is_sound(tasks: &[u16], promises: &[u16]) -> bool
     ensures { λ r. ⌜ r ≡ soundTest (small .base) (tablesOf (now (tasks .entry)) (now (promises .entry))) ⌝ }
 {
-    sound::is_sound(tasks, promises)
+    table_sound::is_sound(tasks, promises)
 }
 
 // Makes the lent tables fresh: 0, or 1 if one is too short or too long.
@@ -30,7 +30,7 @@ pub extern "C" fn registry_is_sound(tasks: &[u16], promises: &[u16]) -> bool
 pub extern "C" fn registry_fresh(tasks: &mut [u16], promises: &mut [u16]) -> u16
     ensures { λ r. ⌜ Freshens small (tablesOf (now (tasks .entry)) (now (promises .entry))) r (tablesOf (now (tasks .exit)) (now (promises .exit))) ⌝ }
 {
-    opening::fresh(tasks, promises)
+    table_fresh::fresh(tasks, promises)
 }
 
 #[no_mangle]
@@ -129,5 +129,5 @@ pub extern "C" fn registry_batch(
 ) -> u16
     ensures { λ r. ⌜ Flats (flatly small (now (list .entry)) (tablesOf (now (tasks .entry)) (now (promises .entry))) (now (steps .entry)) (length (now (report .entry))) (length (now (answers .entry)))) (now (report .entry)) (now (answers .entry)) r (tablesOf (now (tasks .exit)) (now (promises .exit))) (now (report .exit)) (now (answers .exit)) ⌝ }
 {
-    unpacking::batch_words(tasks, promises, report, steps, list, answers)
+    batch_words::batch_words(tasks, promises, report, steps, list, answers)
 }

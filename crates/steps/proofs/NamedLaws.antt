@@ -4,9 +4,9 @@ use mathlib.Core.Path.{_≡_, refl, sym}
 use mathlib.Core.List.{List}
 use mathlib.Core.Bool.{true, false}
 use Rattle.words.proofs.BoolLaws.{true-is-not-false}
-use Rattle.kinds.specs.declared.Kind.{Kind}
-use Rattle.kinds.specs.declared.Kind.the-variants.{New, Set, Get, Async, End}
-use Rattle.kinds.specs.Kinds.{shapeOf, takesList}
+use Rattle.step_kinds.specs.declared.Kind.{Kind}
+use Rattle.step_kinds.specs.declared.Kind.the-variants.{New, Set, Get, Async, End}
+use Rattle.step_kinds.specs.Kinds.{shapeOf, takesList}
 use Rattle.steps.specs.Named.{stepBy}
 
 -- a kind that takes no list is the same step with any

@@ -4,8 +4,8 @@
 -- Assumes nothing.
 use Prim.Native.Nat.{ℕ}
 use mathlib.Core.List.{List}
-use Rattle.kinds.specs.declared.Kind.{Kind}
-use Rattle.kinds.specs.declared.Kind.the-variants.{New, Set, Get, Async, End}
+use Rattle.step_kinds.specs.declared.Kind.{Kind}
+use Rattle.step_kinds.specs.declared.Kind.the-variants.{New, Set, Get, Async, End}
 use Rattle.rules.specs.Steps.{Step, step-new, step-set, step-get, step-async, step-end}
 
 unfoldable pub stepBy : Kind → ℕ → ℕ → List ℕ → Step

@@ -1,12 +1,12 @@
 // A step, as its kind and its numbers name it: the one place that goes from a kind to the function of its step.
-use ending::raw_end;
-use getting::raw_get;
-use kinds::Kind;
-use making::raw_new;
 use rules::Answer;
-use setting::raw_set;
-use sound::table_refusal;
-use starting::raw_async;
+use step_async::raw_async;
+use step_end::raw_end;
+use step_get::raw_get;
+use step_kinds::Kind;
+use step_new::raw_new;
+use step_set::raw_set;
+use table_sound::table_refusal;
 ghost use mathlib.Core.Path.{_≡_};
 ghost use mathlib.Core.Bool.{true};
 ghost use lib.ListN.{length};

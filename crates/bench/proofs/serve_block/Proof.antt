@@ -6,7 +6,7 @@ use lib.ListN.{length}
 use borrow.Author.Needs.{needs}
 use native.Mathlib.Omega.{arith}
 use Rattle.rules.specs.Tables.{tables}
-use Rattle.serving.specs.Input.{Desk}
+use Rattle.line_serving.specs.Input.{Desk}
 use Rattle.bench.specs.Carrying.{At, Fed}
 use Rattle.bench.proofs.BenchLaws.{goes-on, stops-or-goes, more-than-none, at-same, fed-none, fed-more}
 use Rattle.bench.proofs.serve_block.Statement.{statement}

@@ -4,7 +4,7 @@ use mathlib.Core.Path.{refl}
 use Prim.Native.Nat.{_+_, _-_, _≤_, _<_}
 use lib.ListN.{length, take, drop}
 use Rattle.rules.specs.Tables.{tables}
-use Rattle.serving.proofs.ServingLaws.{served-on, served-within}
+use Rattle.line_serving.proofs.ServingLaws.{served-on, served-within}
 use Rattle.bench.proofs.BenchLaws.{added-within, carried}
 use Rattle.words.proofs.BoolLaws.{and-split}
 use native.Mathlib.Omega.{arith}

@@ -1,6 +1,6 @@
 -- `read::end_of` meets its contract: the bounds of `run_end` are laws of its definition.
 -- Assumes nothing.
-use Rattle.fields.proofs.FieldLaws.{endFrom-from, endFrom-within}
+use Rattle.text_fields.proofs.FieldLaws.{endFrom-from, endFrom-within}
 use borrow.Author.Needs.{needs}
 use Rattle.edges.proofs.read.end_of.Statement.{statement}
 use Rattle.edges.proofs.read.end_of.Tie as tie

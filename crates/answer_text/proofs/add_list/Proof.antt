@@ -1,0 +1,22 @@
+-- `answer_text::add_list` meets its contract: the words of the report follow the count (`added-added`).
+-- Assumes nothing.
+use mathlib.Core.List.{[], _∷_}
+use borrow.Author.Needs.{needs}
+use Rattle.answer_text.proofs.AnswerLaws.{fieldsText-append, added-added}
+use Rattle.answer_text.proofs.add_list.Statement.{statement}
+use Rattle.answer_text.proofs.add_list.Tie as tie
+
+add-field-requires : tie.Need-add-field-requires
+add-field-requires c κs = search needs
+
+add-part-requires : tie.Need-add-part-requires
+add-part-requires c κs = search needs
+
+same-length : tie.Need-same-length
+same-length c = search needs
+
+returns : tie.Need-returns
+returns c = rw (fieldsText-append (c .before .before .before .before .before .before .before .before .before .before .args .count ∷ [])) (added-added (c .before .before .before .before .before .before .add-field .ensures) (c .before .before .add-part .ensures))
+
+pub add-list-spec : {M : Type 1} → statement M
+add-list-spec = tie.close (tie.spec add-field-requires add-part-requires same-length returns)

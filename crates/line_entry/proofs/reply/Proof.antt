@@ -1,0 +1,56 @@
+use mathlib.Core.Path.{refl, sym, _∙_}
+use Rattle.line_entry.specs.Lines.{entryOf}
+use borrow.Author.Needs.{needs}
+use Rattle.line_entry.proofs.reply.Statement.{statement}
+use Rattle.line_entry.proofs.reply.Tie as tie
+
+lent-well-requires : tie.Need-lent-well-requires
+lent-well-requires c κs = search needs
+
+slice-aggregate-answer-line : tie.Need-slice-aggregate-answer-line
+slice-aggregate-answer-line c = search needs
+
+answer-line-requires : tie.Need-answer-line-requires
+answer-line-requires c κs = (sym (c .before .before .before .before .before .before .lent-well .ensures) ∙ c .before .before .before .before .before .if1 .taken, search needs)
+
+same-length : tie.Need-same-length
+same-length c = search needs
+
+same-length-2 : tie.Need-same-length-2
+same-length-2 c = search needs
+
+same-length-3 : tie.Need-same-length-3
+same-length-3 c = search needs
+
+same-length-4 : tie.Need-same-length-4
+same-length-4 c = search needs
+
+returns : tie.Need-returns
+unfolding entryOf
+returns c = rw (← c .before .before .before .before .before .before .before .before .before .before .before .before .before .before .before .before .lent-well .ensures, c .before .before .before .before .before .before .before .before .before .before .before .before .before .before .before .if1 .taken) (c .before .before .before .before .before .before .before .before .before .answer-line .ensures)
+
+same-length-5 : tie.Need-same-length-5
+same-length-5 c = search needs
+
+same-length-6 : tie.Need-same-length-6
+same-length-6 c = search needs
+
+returns-2 : tie.Need-returns-2
+unfolding entryOf
+returns-2 c = rw (← c .before .lent-well .ensures, c .if1 .left) (record { number = refl; session = refl; bytes = refl; after = refl; report = refl; answer = refl })
+
+pub reply-spec : {M : Type 1} → statement M
+reply-spec =
+    tie.close
+    (tie.spec
+    lent-well-requires
+    slice-aggregate-answer-line
+    answer-line-requires
+    same-length
+    same-length-2
+    same-length-3
+    same-length-4
+    returns
+    same-length-5
+    same-length-6
+    returns-2)

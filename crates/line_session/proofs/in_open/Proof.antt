@@ -1,0 +1,73 @@
+use mathlib.Core.Path.{refl, sym}
+use native.Mathlib.Nat.{sub-zero}
+use Rattle.words.proofs.ListLaws.{over-none}
+use Rattle.text_forms.specs.Judging.{countIn}
+use Rattle.line_session.specs.Sessions.{openOutcome}
+use borrow.Author.Needs.{needs}
+use Rattle.line_session.proofs.in_open.Statement.{statement}
+use Rattle.line_session.proofs.in_open.Tie as tie
+
+enum-told : tie.Need-enum-told
+enum-told c = search needs
+
+enum-known-form : tie.Need-enum-known-form
+enum-known-form c = search needs
+
+sub-step : tie.Need-sub-step
+sub-step c = search needs
+
+part-step-start : tie.Need-part-step-start
+part-step-start c = search needs
+
+part-step-end : tie.Need-part-step-end
+unfolding countIn
+part-step-end c = rw (c .before .before .before .before .form .given .1) at (c .before .before .before .before .before .before .before .before .before .before .pre)
+
+step-requires : tie.Need-step-requires
+step-requires c κs = search needs
+
+enum-known-form-2 : tie.Need-enum-known-form-2
+enum-known-form-2 c = search needs
+
+refused-at-column-requires : tie.Need-refused-at-column-requires
+refused-at-column-requires c κs = search needs
+
+returns : tie.Need-returns
+unfolding openOutcome
+returns c = rw (c .enum-told .given .1) (record { answer = refl; after = refl; report = sym (over-none _) })
+
+same-length : tie.Need-same-length
+same-length c = search needs
+
+same-length-2 : tie.Need-same-length-2
+same-length-2 c = search needs
+
+same-length-3 : tie.Need-same-length-3
+same-length-3 c = search needs
+
+returns-2 : tie.Need-returns-2
+unfolding openOutcome countIn
+returns-2 c = rw (c .before .before .before .before .before .before .before .before .before .before .before .before .form .given .1) (rw sub-zero at (c .before .before .before .before .before .before .step .ensures))
+
+returns-3 : tie.Need-returns-3
+unfolding openOutcome
+returns-3 c = rw (c .before .before .form2 .given .1) (record { answer = c .refused-at-column .ensures; after = refl; report = sym (over-none _) })
+
+pub in-open-spec : {M : Type 1} → statement M
+in-open-spec =
+    tie.close
+    (tie.spec
+    enum-told
+    enum-known-form
+    sub-step
+    part-step-start
+    part-step-end
+    step-requires
+    enum-known-form-2
+    refused-at-column-requires
+    returns
+    same-length
+    same-length-2
+    same-length-3
+    returns-2
+    returns-3)

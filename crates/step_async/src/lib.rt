@@ -1,0 +1,141 @@
+// The step async: a child that was never used becomes ready, and every listed promise passes from the acting task to it, or none does.
+ghost use mathlib.Core.Path.{_≡_};
+ghost use mathlib.Core.List.{[], _∷_};
+ghost use mathlib.Core.Bool.{true, not};
+ghost use Prim.Native.Nat.{_-_, _<_};
+ghost use lib.ListN.{length, getD};
+ghost use Rattle.words.specs.Words.{small};
+ghost use Rattle.words.specs.Lists.{allBelow};
+ghost use Rattle.rules.specs.Tables.{tables as tablesOf, sizesFit};
+ghost use Rattle.rules.specs.Answers.{refusedAtWith};
+ghost use Rattle.rules.specs.Refusals.{first, differs, entryRefusal, firstBad};
+ghost use Rattle.rules.specs.Steps.{step-async, rows, given};
+ghost use Rattle.rules.specs.Contracts.{Takes, TakesQuietly};
+use rules::Answer;
+use step_guards::actor_refusal;
+use step_guards::blamed_task;
+use step_guards::child_refusal;
+use step_guards::own_refusal;
+use table_access::at;
+use table_access::earlier;
+use table_access::put;
+use table_sound::table_refusal;
+use words::PromiseWord;
+use words::TaskWord;
+
+// Refusals 3, 4, 5, 11 and 12.
+fn refusal(tasks: &[u16], promises: &[u16], t: u16, c: u16, list: &[u16]) -> u16
+    ensures { λ r. ⌜ r ≡ first (rows small (tablesOf (now (tasks .entry)) (now (promises .entry))) (step-async t c (now (list .entry)))) ⌝ }
+{
+    let a = actor_refusal(tasks, t);
+    let b = child_refusal(tasks, c);
+    earlier(a, b)
+}
+
+// Refusal 13, or 0: whether one of the first `k` entries is `q`.
+fn again_refusal(list: &[u16], q: u16, k: usize) -> u16
+    ensures { λ r. ⌜ r ≡ first ((13, not (allBelow k (differs (now (list .entry)) q))) ∷ []) ⌝ }
+{
+    let mut i = 0;
+    while i < k {
+        if at(list, i) == q {
+            return 13;
+        }
+        i += 1;
+    }
+    0
+}
+
+// Refusals 6, 8, 9, 17, 10 and 13 of entry `k` of the list.
+fn entry_refusal(promises: &[u16], t: u16, list: &[u16], k: usize) -> u16
+    ensures { λ r. ⌜ r ≡ entryRefusal (small .base) (now (promises .entry)) t (now (list .entry)) k ⌝ }
+{
+    let q = at(list, k);
+    let own = own_refusal(promises, t, q);
+    let again = again_refusal(list, q, k);
+    earlier(own, again)
+}
+
+// The first bad place, and the list's length where there is none.
+fn first_bad(promises: &[u16], t: u16, list: &[u16]) -> usize
+    ensures { λ r. ⌜ r ≡ firstBad (entryRefusal (small .base) (now (promises .entry)) t (now (list .entry))) (length (now (list .entry))) 0 ⌝ }
+{
+    let mut i = 0;
+    while i < list.len() {
+        if entry_refusal(promises, t, list, i) != 0 {
+            return i;
+        }
+        i += 1;
+    }
+    i
+}
+
+// The answer that refuses for entry `k`, at its place: 17 with the task that the entry is blamed on.
+fn refused_entry(promises: &[u16], t: u16, list: &[u16], k: usize) -> Answer
+    requires { ⌜ k < 65536 ⌝ }
+    ensures { λ a. ⌜ a ≡ refusedAtWith (getD (now (promises .entry)) (getD (now (list .entry)) k 0) 0 - small .base) k (entryRefusal (small .base) (now (promises .entry)) t (now (list .entry)) k) ⌝ }
+{
+    let e = entry_refusal(promises, t, list, k);
+    let place = k as u16;
+    if e == 17 {
+        let entry = at(list, k);
+        let b = blamed_task(promises, entry);
+        return Answer::RefusedBlamedAt {
+            place: place,
+            blamed: b,
+        };
+    }
+    Answer::RefusedAt {
+        number: e,
+        place: place,
+    }
+}
+
+// Each listed promise gets the word `w`.
+fn give(promises: &mut [u16], w: u16, list: &[u16])
+    ensures { λ _. ⌜ now (promises .exit) ≡ given w (now (list .entry)) (now (promises .entry)) ⌝ }
+{
+    let mut moved = 0;
+    while moved < list.len() {
+        let q = list[moved];
+        put(promises, q as usize, w);
+        moved += 1;
+    }
+}
+
+// The step without refusals 1 and 2, for a caller that has tested the bounds and the tables. Nothing is stored before the whole list has passed.
+pub fn raw_async(tasks: &mut [u16], promises: &mut [u16], t: u16, c: u16, list: &[u16]) -> Answer
+    requires { ⌜ sizesFit small (tablesOf (now tasks) (now promises)) ≡ true ⌝ }
+    ensures { λ r. ⌜ TakesQuietly small (step-async t c (now (list .entry))) (tablesOf (now (tasks .entry)) (now (promises .entry))) r (tablesOf (now (tasks .exit)) (now (promises .exit))) ⌝ }
+{
+    let r = refusal(tasks, promises, t, c, list);
+    if r != 0 {
+        return Answer::Refused(r);
+    }
+    let k = first_bad(promises, t, list);
+    if k < list.len() {
+        return refused_entry(promises, t, list, k);
+    }
+    put(tasks, c as usize, TaskWord::READY);
+    let w = PromiseWord::owned_by(c);
+    give(promises, w, list);
+    Answer::Started
+}
+
+// The step: for tables and a report of any lengths, with any words in them, and any numbers.
+pub fn step_async(
+    tasks: &mut [u16],
+    promises: &mut [u16],
+    report: &mut [u16],
+    t: u16,
+    c: u16,
+    list: &[u16],
+) -> Answer
+    ensures { λ r. ⌜ Takes small (step-async t c (now (list .entry))) (tablesOf (now (tasks .entry)) (now (promises .entry))) (now (report .entry)) r (tablesOf (now (tasks .exit)) (now (promises .exit))) (now (report .exit)) ⌝ }
+{
+    let d = table_refusal(tasks, promises, report.len());
+    if d != 0 {
+        return Answer::Refused(d);
+    }
+    raw_async(tasks, promises, t, c, list)
+}

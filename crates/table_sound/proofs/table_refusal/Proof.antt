@@ -1,0 +1,27 @@
+-- `table_sound::table_refusal` meets its contract: each return knows which of the two rows applies. Assumes nothing.
+use borrow.Author.Needs.{needs}
+use Rattle.rules.specs.Refusals.{first}
+use Rattle.table_sound.proofs.table_refusal.Statement.{statement}
+use Rattle.table_sound.proofs.table_refusal.Tie as tie
+
+in-bounds-requires : tie.Need-in-bounds-requires
+in-bounds-requires c κs = search needs
+
+is-sound-requires : tie.Need-is-sound-requires
+is-sound-requires c κs = search needs
+
+returns : tie.Need-returns
+unfolding first
+returns c = rw (← c .before .before .before .in-bounds .ensures, c .before .before .if1 .taken, ← c .before .is-sound .ensures, c .if2 .taken)
+
+returns-2 : tie.Need-returns-2
+unfolding first
+returns-2 c = rw (← c .before .before .before .in-bounds .ensures, c .before .before .if1 .taken, ← c .before .is-sound .ensures, c .if2 .left)
+
+returns-3 : tie.Need-returns-3
+unfolding first
+returns-3 c = rw (← c .before .in-bounds .ensures, c .if1 .left)
+
+pub table-refusal-spec : {M : Type 1} → statement M
+table-refusal-spec =
+    tie.close (tie.spec in-bounds-requires is-sound-requires returns returns-2 returns-3)

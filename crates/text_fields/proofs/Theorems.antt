@@ -1,0 +1,79 @@
+-- What is promised of fields: the part that is handed back is the one between two tabs that starts at its place, there is only one
+-- such part, and "no more fields" is told apart from an empty last field.
+-- Assumes nothing.
+use Prim.Native.Nat.{ℕ, _+_, _≤_, _<_}
+use mathlib.Core.List.{List, [], _∷_, _++_}
+use mathlib.Core.Logic.{_⊎_, inl, inr}
+use mathlib.Core.Path.{_≡_, ap, sym, _∙_}
+use native.Mathlib.Omega.{arith}
+use native.Mathlib.Decide.{decLt}
+use lib.ListN.{length, take, drop, length-drop, take-append-drop, drop-of-length-le}
+use lib.Seq.{drop-drop, drop-at, take-append-seam, length-take-le}
+use Rattle.text_fields.specs.Fields.{tab, runTo, endFrom, run, fieldEnd, fieldAt, nextStart, Field}
+use Rattle.text_fields.proofs.FieldLaws.{run-append, run-firstField, run-afterField, run-none, fieldAt-length, fieldEnd-within, nextStart-is, nextStart-past}
+
+-- THE FIELD'S PLACE: from `at` up to its end, no tab within, a tab or the line's end after it
+pub field-placed : (s : List ℕ) (at : ℕ) → Field s at (fieldAt s at) (fieldEnd s at)
+unfolding fieldAt fieldEnd endFrom
+field-placed s at = record {
+  place = sym (fieldAt-length s at);
+  whole = sym (take-append-drop at s) ∙ ap (λ (r : List ℕ). take at s ++ r) (sym (take-append-drop (run (drop at s)) (drop at s)) ∙ ap (λ (r : List ℕ). take (run (drop at s)) (drop at s) ++ r) (drop-drop (run (drop at s)) at s));
+  no-tab = run-firstField (drop at s);
+  after = ends (decLt (fieldEnd s at) (length s));
+}
+  where
+    z : run (drop (at + run (drop at s)) s) ≡ 0
+    z = ap run (sym (drop-drop (run (drop at s)) at s)) ∙ run-afterField (drop at s)
+
+    ends : Dec (fieldEnd s at < length s) → (drop (fieldEnd s at) s ≡ []) ⊎ (drop (fieldEnd s at) s ≡ tab ∷ drop (fieldEnd s at + 1) s)
+    ends (no h) = inl (drop-of-length-le s {i = fieldEnd s at} (omega arith))
+    ends (yes h) =
+        let (x, p) = run-none (drop (fieldEnd s at) s) z (omega (arith, length-drop (fieldEnd s at) s)) in
+        inr (p ∙ ap (λ (y : List ℕ). tab ∷ y) (sym (ap (λ (r : List ℕ). drop 1 r) p) ∙ drop-drop 1 (fieldEnd s at) s))
+
+-- and it is the only one: no other part that starts there is between two tabs
+no-run : {d : List ℕ} {y : List ℕ} → (d ≡ []) ⊎ (d ≡ tab ∷ y) → run d ≡ 0
+unfolding runTo
+no-run (inl e) = rw e
+no-run (inr e) = rw e
+
+pub field-one : {s : List ℕ} {at : ℕ} {f : List ℕ} {e : ℕ} → at ≤ length s → Field s at f e → (f ≡ fieldAt s at) × (e ≡ fieldEnd s at)
+unfolding fieldAt fieldEnd endFrom
+field-one {s} {at} {f} {e} h p =
+    let q : drop at s ≡ f ++ drop e s = ap (λ (r : List ℕ). drop at r) (p .whole) ∙ drop-at (take at s) (f ++ drop e s) at (length-take-le at s h) in
+    let z = no-run (p .after) in
+    let k : run (drop at s) ≡ length f = ap run q ∙ run-append f (drop e s) (p .no-tab) ∙ omega arith in
+    (sym (rw (k, q, take-append-seam)), p .place ∙ ap (λ (n : ℕ). at + n) (sym k))
+
+-- ---- the next field
+
+-- a tab ends the field: the next one starts after it, within the line or at its end
+pub next-starts : (s : List ℕ) (at : ℕ) → at ≤ length s → fieldEnd s at < length s → (nextStart s at ≡ fieldEnd s at + 1) × (nextStart s at ≤ length s)
+next-starts s at h l = let q = nextStart-is s at h in (q, omega arith)
+
+-- the line's end ends it: there is none, whatever the field held
+pub next-none : (s : List ℕ) (at : ℕ) → at ≤ length s → length s ≤ fieldEnd s at → nextStart s at ≡ length s + 1
+next-none s at h l = let q = nextStart-is s at h in omega (arith, fieldEnd-within s at h)
+
+-- a place is never past that
+pub next-most : (s : List ℕ) (at : ℕ) → at ≤ length s + 1 → nextStart s at ≤ length s + 1
+next-most s at h = go (decLt (length s) at)
+  where
+    go : Dec (length s < at) → nextStart s at ≤ length s + 1
+    go (yes l) = omega (arith, nextStart-past s at l)
+    go (no l) = let k : at ≤ length s = omega arith in omega (arith, nextStart-is s at k, fieldEnd-within s at k)
+
+-- ---- 01, "How much each contract must say": any two outcomes that a contract allows coincide
+
+module _ (s : List ℕ) (at : ℕ) where
+  pub run-end-unique : (stop : ℕ) {p q : ℕ} → p ≡ endFrom stop s at → q ≡ endFrom stop s at → p ≡ q
+  run-end-unique stop e f = e ∙ sym f
+
+  pub field-end-unique : {p q : ℕ} → p ≡ fieldEnd s at → q ≡ fieldEnd s at → p ≡ q
+  field-end-unique e f = e ∙ sym f
+
+  pub field-unique : {p q : List ℕ} → p ≡ fieldAt s at → q ≡ fieldAt s at → p ≡ q
+  field-unique e f = e ∙ sym f
+
+  pub next-start-unique : {p q : ℕ} → p ≡ nextStart s at → q ≡ nextStart s at → p ≡ q
+  next-start-unique e f = e ∙ sym f

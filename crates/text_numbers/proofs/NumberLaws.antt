@@ -1,0 +1,89 @@
+-- Laws of `numberOf` and `digitsFrom`, the reading half of specs/Numbers.antt: one for each way out of a step of a loop over the
+-- field, and that a bad byte's place lies within the field.
+-- Assumes nothing.
+use Prim.Native.Nat.{ℕ, suc, _+_, _*_, _≤_, _<_}
+use mathlib.Core.List.{List, [], _∷_}
+use mathlib.Core.Bool.{Bool, true, false}
+use lib.Dec.{ltb, leb, eqb}
+use mathlib.Core.Path.{_≡_, refl, sym}
+use native.Mathlib.Omega.{arith}
+use native.Mathlib.Numerals.{add-one}
+use borrow.Author.Tests.{eq-eqb, ne-eqb, lt-ltb, le-ltb, le-leb, lt-leb}
+use lib.ListN.{length, drop, getD, drop-of-length-le}
+use lib.Seq.{drop-cons}
+use Rattle.text_numbers.specs.declared.Num.the-variants.{Is, Bad}
+use Rattle.text_numbers.specs.Numbers.{largest, digitOf, digitsFrom, afterZero, numberOf}
+
+pub numberOf-empty : (s : List ℕ) → length s ≡ 0 → numberOf s ≡ Bad 0
+unfolding afterZero numberOf
+numberOf-empty [] h = refl
+numberOf-empty (b ∷ s) h = absurd (omega arith)
+
+pub numberOf-zero : (s : List ℕ) → getD s 0 0 ≡ 48 → length s ≡ 1 → numberOf s ≡ Is 0
+unfolding afterZero numberOf
+numberOf-zero [] z h = absurd (omega arith)
+numberOf-zero (b ∷ []) z h = rw (eq-eqb _ _ z)
+numberOf-zero (b ∷ a ∷ s) z h = absurd (omega arith)
+
+pub numberOf-zero-more : (s : List ℕ) → getD s 0 0 ≡ 48 → (length s ≡ 1 → ⊥) → numberOf s ≡ Bad 1
+unfolding afterZero numberOf
+numberOf-zero-more [] z h = absurd (omega arith)
+numberOf-zero-more (b ∷ []) z h = absurd (h refl)
+numberOf-zero-more (b ∷ a ∷ s) z h = rw (eq-eqb _ _ z)
+
+pub numberOf-start : (s : List ℕ) → (length s ≡ 0 → ⊥) → (getD s 0 0 ≡ 48 → ⊥) → numberOf s ≡ digitsFrom 0 0 s
+unfolding afterZero numberOf
+numberOf-start [] h z = absurd (h refl)
+numberOf-start (b ∷ s) h z = rw (ne-eqb _ _ z)
+
+module _ (s : List ℕ) (v k i : ℕ) where
+  pub digitsFrom-end : length s ≤ i → digitsFrom v k (drop i s) ≡ Is v
+  unfolding digitsFrom
+  digitsFrom-end h = rw drop-of-length-le
+
+  module _ (d : ℕ) (e : d ≡ digitOf (getD s i 0)) (h : i < length s) where
+    pub digitsFrom-stop : 10 ≤ d → digitsFrom v k (drop i s) ≡ Bad k
+    unfolding digitsFrom
+    digitsFrom-stop n = rw (drop-cons s i 0, ← e, le-ltb _ _ n)
+
+    pub digitsFrom-over : d < 10 → largest < v * 10 + d → digitsFrom v k (drop i s) ≡ Bad k
+    unfolding digitsFrom
+    digitsFrom-over n o = rw (drop-cons s i 0, ← e, lt-ltb _ _ n, lt-leb _ _ o)
+
+    pub digitsFrom-go : d < 10 → v * 10 + d ≤ largest → digitsFrom v k (drop i s) ≡ digitsFrom (v * 10 + d) (k + 1) (drop (i + 1) s)
+    unfolding digitsFrom
+    digitsFrom-go n o = rw (add-one i, drop-cons s i 0, ← e, lt-ltb _ _ n, le-leb _ _ o)
+
+-- the place of a bad byte is within the field, or at its end
+never : {k n : ℕ} {A : Type 0} → Is n ≡ Bad k → A
+never e = let z : _≡_ {A = ℕ} 0 1 = cc in absurd (omega arith)
+
+within-step : (b v k j : ℕ) (s : List ℕ) → (digitsFrom (v * 10 + digitOf b) (k + 1) s ≡ Bad j → j ≤ k + 1 + length s)
+    → (x : Bool) → ltb (digitOf b) 10 ≡ x → (y : Bool) → leb (v * 10 + digitOf b) largest ≡ y → digitsFrom v k (b ∷ s) ≡ Bad j → j ≤ k + suc (length s)
+unfolding digitsFrom
+within-step b v k j s ih false d y o e = let r = rw d at e in let q : k ≡ j = cc in omega arith
+within-step b v k j s ih true d false o e = let r = rw (d, o) at e in let q : k ≡ j = cc in omega arith
+within-step b v k j s ih true d true o e = omega (arith, ih (rw (d, o) at e))
+
+digitsFrom-within : (s : List ℕ) (v k j : ℕ) → digitsFrom v k s ≡ Bad j → j ≤ k + length s
+unfolding digitsFrom
+digitsFrom-within [] v k j e = never e
+digitsFrom-within (b ∷ s) v k j e =
+    within-step b v k j s (digitsFrom-within s (v * 10 + digitOf b) (k + 1) j) (ltb (digitOf b) 10) refl (leb (v * 10 + digitOf b) largest) refl e
+
+bad-step : (b j : ℕ) (s : List ℕ) (x : Bool) → eqb b 48 ≡ x → numberOf (b ∷ s) ≡ Bad j → j ≤ suc (length s)
+unfolding numberOf afterZero
+bad-step b j [] true z e = never (rw z at e)
+bad-step b j (a ∷ s) true z e = let r = rw z at e in let q : 1 ≡ j = cc in omega arith
+bad-step b j s false z e = omega (arith, digitsFrom-within (b ∷ s) 0 0 j (rw z at e))
+
+pub numberOf-bad-within : (s : List ℕ) (j : ℕ) → numberOf s ≡ Bad j → j ≤ length s
+unfolding numberOf
+numberOf-bad-within [] j e = let q : 0 ≡ j = cc in omega arith
+numberOf-bad-within (b ∷ s) j e = bad-step b j s (eqb b 48) refl e
+
+-- a number has a digit
+pub numberOf-is-nonempty : (s : List ℕ) (v : ℕ) → numberOf s ≡ Is v → 0 < length s
+unfolding numberOf
+numberOf-is-nonempty [] v e = never (sym e)
+numberOf-is-nonempty (b ∷ s) v e = omega arith

@@ -1,0 +1,57 @@
+-- `text_records::pair_at` meets its contract: the two numbers are read in the order of `withFirst` and `withSecond`.
+-- Assumes nothing.
+use mathlib.Core.Path.{sym, _∙_}
+use Rattle.text_records.specs.Records.{pairAt, withFirst, withSecond}
+use borrow.Author.Needs.{needs}
+use Rattle.text_records.proofs.pair_at.Statement.{statement}
+use Rattle.text_records.proofs.pair_at.Tie as tie
+
+number-at-requires : tie.Need-number-at-requires
+number-at-requires c κs = search needs
+
+enum-known-a : tie.Need-enum-known-a
+enum-known-a c = search needs
+
+number-at-requires-2 : tie.Need-number-at-requires-2
+number-at-requires-2 c κs = search needs
+
+enum-known-b : tie.Need-enum-known-b
+enum-known-b c = search needs
+
+enum-known-k : tie.Need-enum-known-k
+enum-known-k c = search needs
+
+enum-known-k-2 : tie.Need-enum-known-k-2
+enum-known-k-2 c = search needs
+
+returns : tie.Need-returns
+unfolding pairAt withFirst withSecond
+returns c =
+    let m = c .before .before .before in
+    let l = m .before .before .before .before in
+    rw (sym (l .number-at .ensures) ∙ m .before .before .a .given .1, sym (m .number-at2 .ensures) ∙ c .before .b .given .1)
+
+returns-2 : tie.Need-returns-2
+unfolding pairAt withFirst withSecond
+returns-2 c =
+    let m = c .before .before .before in
+    let l = m .before .before .before .before in
+    rw (sym (l .number-at .ensures) ∙ m .before .before .a .given .1, sym (m .number-at2 .ensures) ∙ c .before .k .given .1)
+
+returns-3 : tie.Need-returns-3
+unfolding pairAt withFirst withSecond
+returns-3 c = rw (sym (c .before .before .before .number-at .ensures) ∙ c .before .k2 .given .1)
+
+pub pair-at-spec : {M : Type 1} → statement M
+pair-at-spec =
+    tie.close
+    (tie.spec
+    number-at-requires
+    enum-known-a
+    number-at-requires-2
+    enum-known-b
+    enum-known-k
+    enum-known-k-2
+    returns
+    returns-2
+    returns-3)

@@ -1,0 +1,76 @@
+-- `text_records::record_of` meets its contract: the line goes by its word (`by`), and each arm is the clause of `afterWord` for that word.
+-- Assumes nothing.
+use mathlib.Core.Path.{_≡_, sym, _∙_}
+use lib.ListN.{length}
+use Rattle.text_keywords.specs.declared.Keyword.{Keyword}
+use Rattle.text_records.specs.Records.{ofPair, afterWord, recordOf}
+use Rattle.text_records.proofs.RecordLaws.{recordOf-by}
+use borrow.Author.Needs.{needs}
+use Rattle.text_records.proofs.record_of.Statement.{statement}
+use Rattle.text_records.proofs.record_of.Tie as tie
+
+field-from-requires : tie.Need-field-from-requires
+field-from-requires c κs = search needs
+
+keyword-of-requires : tie.Need-keyword-of-requires
+keyword-of-requires c κs = search needs
+
+enum-told : tie.Need-enum-told
+enum-told c = search needs
+
+last-pair-requires : tie.Need-last-pair-requires
+last-pair-requires c κs = search needs
+
+enum-known-a : tie.Need-enum-known-a
+enum-known-a c = search needs
+
+enum-known-k : tie.Need-enum-known-k
+enum-known-k c = search needs
+
+enum-known-kind : tie.Need-enum-known-kind
+enum-known-kind c = search needs
+
+step-after-requires : tie.Need-step-after-requires
+step-after-requires c κs = search needs
+
+enum-known-k-2 : tie.Need-enum-known-k-2
+enum-known-k-2 c = search needs
+
+-- after the word, whichever it is
+by : (c : tie.After-keyword-of) {v : Keyword} → c .keyword-of .result ≡ v
+    → recordOf (c .before .before .before .args .line .now) ≡ afterWord (c .before .before .before .args .line .now) (length (c .before .field-from .result .now)) v
+by c told = recordOf-by _ _ _ _ (c .before .field-from .ensures) (c .keyword-of .ensures) told
+
+returns : tie.Need-returns
+unfolding afterWord ofPair
+returns c = rw (by (c .before .before .before .before .before .before) (c .before .before .before .before .enum-told .given .1), sym (c .before .before .before .last-pair .ensures) ∙ c .before .a .given .1)
+
+returns-2 : tie.Need-returns-2
+unfolding afterWord ofPair
+returns-2 c = rw (by (c .before .before .before .before .before .before) (c .before .before .before .before .enum-told .given .1), sym (c .before .before .before .last-pair .ensures) ∙ c .before .k .given .1)
+
+returns-3 : tie.Need-returns-3
+unfolding afterWord ofPair
+returns-3 c = c .step-after .ensures ∙ sym (by (c .before .before .before .before) (c .before .before .kind .given .1))
+
+returns-4 : tie.Need-returns-4
+unfolding afterWord ofPair
+returns-4 c = sym (by (c .before .before .before) (c .before .k2 .given .1))
+
+pub record-of-spec : {M : Type 1} → statement M
+record-of-spec =
+    tie.close
+    (tie.spec
+    field-from-requires
+    keyword-of-requires
+    enum-told
+    last-pair-requires
+    enum-known-a
+    enum-known-k
+    enum-known-kind
+    step-after-requires
+    enum-known-k-2
+    returns
+    returns-2
+    returns-3
+    returns-4)

@@ -1,0 +1,90 @@
+-- Laws of specs/Texts.antt: a text written byte by byte and field by field, a part of the words as a slice, and how many bytes the
+-- fields of numbers take.
+-- Assumes nothing.
+use Prim.Native.Nat.{ℕ, zero, suc, _+_, _-_, _*_, _≤_, _<_, min}
+use mathlib.Core.List.{List, [], _∷_, _++_, append-assoc, append-nil}
+use mathlib.Core.Path.{_≡_, ap, sym}
+use native.Mathlib.Omega.{arith}
+use native.Mathlib.Numerals.{add-one}
+use native.Mathlib.Nat.{mul-suc, zero-min, min-zero, suc-min-suc}
+use lib.ListN.{length, take, drop, getD, length-append, length-drop, drop-of-length-le}
+use lib.Seq.{take-suc, take-nil}
+use Rattle.text_buffers.specs.Buffers.{Wrote, Added}
+use Rattle.text_buffers.proofs.BufferLaws.{wrote-none, wrote-added}
+use Rattle.text_numbers.proofs.PrintLaws.{dec-three, dec-five}
+use Rattle.text_writers.specs.Texts.{fieldText, fieldsText, partOf, Every, no-more, one-more}
+
+-- ---- one more
+
+-- of a byte string
+pub bytes-more : (t : List ℕ) (i : ℕ) {o x y : List ℕ} {at r : ℕ} → i < length t → Wrote (take i t) o x at → Added (getD t i 0 ∷ []) x at y r
+    → Wrote (take (i + 1) t) o y r
+bytes-more t i h w a = rw (add-one, take-suc t i 0 h) (wrote-added w a)
+
+fieldsText-snoc : (ns : List ℕ) (n : ℕ) → fieldsText (ns ++ (n ∷ [])) ≡ fieldsText ns ++ fieldText n
+unfolding fieldsText
+fieldsText-snoc [] n = append-nil (fieldText n)
+fieldsText-snoc (m ∷ ns) n = rw (fieldsText-snoc ns n) (sym (append-assoc (fieldText m) (fieldsText ns) (fieldText n)))
+
+-- of a list of numbers
+pub fields-more : (ns : List ℕ) (i : ℕ) {o x y : List ℕ} {at r : ℕ} → i < length ns → Wrote (fieldsText (take i ns)) o x at
+    → Added (fieldText (getD ns i 0)) x at y r → Wrote (fieldsText (take (i + 1) ns)) o y r
+fields-more ns i h w a = rw (add-one, take-suc ns i 0 h, fieldsText-snoc (take i ns) (getD ns i 0)) (wrote-added w a)
+
+pub fields-none : (o : List ℕ) → Wrote (fieldsText []) o o 0
+unfolding fieldsText
+fields-none o = wrote-none o
+
+-- ---- a part of the words
+
+pub partOf-none : (s : List ℕ) (from n : ℕ) → length s ≤ from → partOf s from n ≡ []
+partOf-none s from n h = rw (drop-of-length-le s h) (take-nil n)
+
+-- the part as a slice
+pub partOf-slice : (s : List ℕ) (from n e : ℕ) → e ≡ from + min n (length s - from) → take (e - from) (drop from s) ≡ partOf s from n
+partOf-slice s from n e q = go n (drop from s) (e - from) (rw length-drop (omega arith))
+  where
+    go : (n : ℕ) (t : List ℕ) (k : ℕ) → k ≡ min n (length t) → take k t ≡ take n t
+    go n t k p = rw p (cut n t)
+      where
+        cut : (n : ℕ) (t : List ℕ) → take (min n (length t)) t ≡ take n t
+        cut zero t = rw zero-min
+        cut (suc n) [] = rw (min-zero, take-nil)
+        cut (suc n) (b ∷ t) = rw suc-min-suc (ap (λ (r : List ℕ). b ∷ r) (cut n t))
+
+-- ---- a property of every number
+
+-- from that of each place
+pub every-of : (P : ℕ → Type 0) (ns : List ℕ) → ((i : ℕ) → i < length ns → P (getD ns i 0)) → Every P ns
+every-of P [] h = no-more
+every-of P (n ∷ ns) h = one-more (h 0 (omega arith)) (every-of P ns (λ i l. h (suc i) (omega arith)))
+
+pub every-drop : {P : ℕ → Type 0} (i : ℕ) (ns : List ℕ) → Every P ns → Every P (drop i ns)
+every-drop zero ns a = a
+every-drop (suc i) [] a = no-more
+every-drop (suc i) (n ∷ ns) (one-more p a) = every-drop i ns a
+
+pub every-take : {P : ℕ → Type 0} (i : ℕ) (ns : List ℕ) → Every P ns → Every P (take i ns)
+every-take zero ns a = no-more
+every-take (suc i) [] a = no-more
+every-take (suc i) (n ∷ ns) (one-more p a) = one-more p (every-take i ns a)
+
+pub every-part : {P : ℕ → Type 0} (ns : List ℕ) (from k : ℕ) → Every P ns → Every P (partOf ns from k)
+every-part ns from k a = every-take k (drop from ns) (every-drop from ns a)
+
+-- ---- how many bytes there are
+
+-- w bytes a field
+fieldsText-wide : (w : ℕ) (P : ℕ → Type 0) → ((n : ℕ) → P n → length (fieldText n) ≤ w) → (ns : List ℕ) → Every P ns → length (fieldsText ns) ≤ w * length ns
+unfolding fieldsText
+fieldsText-wide w P h [] no-more = omega arith
+fieldsText-wide w P h (n ∷ ns) (one-more p a) =
+    rw length-append (omega (arith, h n p, fieldsText-wide w P h ns a, mul-suc w (length ns)))
+
+-- numbers of 16 bits take at most 6 bytes each
+pub fieldsText-six : (ns : List ℕ) → Every (λ n. n < 65536) ns → length (fieldsText ns) ≤ 6 * length ns
+fieldsText-six ns a = fieldsText-wide 6 (λ n. n < 65536) (λ n h. omega (arith, dec-five n h)) ns a
+
+-- and numbers below 1000 at most 4
+pub fieldsText-four : (ns : List ℕ) → Every (λ n. n < 1000) ns → length (fieldsText ns) ≤ 4 * length ns
+fieldsText-four ns a = fieldsText-wide 4 (λ n. n < 1000) (λ n h. omega (arith, dec-three n h)) ns a
