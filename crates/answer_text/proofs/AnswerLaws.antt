@@ -17,7 +17,7 @@ use Rattle.text_writers.specs.Texts.{fieldText, fieldsText}
 use Rattle.rules.specs.Answers.{laid}
 use Rattle.rules.specs.declared.Layout.{Layout}
 use Rattle.rules.specs.declared.Answer.{Answer}
-use Rattle.answer_text.specs.AnswerText.{wordIn, fieldsIn, answerText}
+use Rattle.answer_text.specs.AnswerText.{wordFor, fieldsIn, answerText}
 
 -- ---- one text after another
 
@@ -75,13 +75,13 @@ fieldsText-append (m ∷ ms) ns = rw (fieldsText-append ms ns) (sym (append-asso
 
 -- its five parts, each written after the one before
 pub answer-wrote : (n : ℕ) (a : Answer) (rs : List ℕ) {l : Layout} {o x y z v w : List ℕ} {d t k e r : ℕ} → l ≡ laid a → Wrote (dec n) o x d → Added (tab ∷ []) x d y t
-    → Added (wordIn (l .refuses) (l .number)) y t z k → Added (fieldsText (fieldsIn l rs)) z k v e → Added (lineEnd ∷ []) v e w r → Wrote (answerText n a rs) o w r
+    → Added (wordFor (l .refuses) (l .number)) y t z k → Added (fieldsText (fieldsIn l rs)) z k v e → Added (lineEnd ∷ []) v e w r → Wrote (answerText n a rs) o w r
 unfolding answerText
 answer-wrote n a rs {l} {o} {x} {y} {z} {v} {w} {d} {t} {k} {e} {r} its-layout digits tab-after word fields end =
     subst (λ (text : List ℕ). Wrote text o w r) (joined ∙ rw its-layout refl) (wrote-added (wrote-added (wrote-added (wrote-added digits tab-after) word) fields) end)
   where
     its-word : List ℕ
-    its-word = wordIn (l .refuses) (l .number)
+    its-word = wordFor (l .refuses) (l .number)
 
     its-fields : List ℕ
     its-fields = fieldsText (fieldsIn l rs)

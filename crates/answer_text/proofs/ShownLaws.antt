@@ -1,5 +1,5 @@
 -- Laws of `fieldsOf` for what an answer shows of the report: with enough words written at the report's start, the fields are the same as
--- from these words alone, whatever the report held before; there are at most four more of them than words; and they are as small as the
+-- from these words alone, whatever the report held before; there are at most four more of them than words; and they are as ofLines as the
 -- answer's own numbers and the words are. Assumes nothing.
 use Prim.Native.Nat.{ℕ, zero, suc, _+_, _-_, _≤_, min}
 use mathlib.Core.List.{List, [], _∷_, _++_}
@@ -8,7 +8,7 @@ use mathlib.Core.Path.{_≡_, refl, ap}
 use native.Mathlib.Omega.{arith}
 use lib.ListN.{length, take, drop, length-append, length-take, length-drop}
 use Rattle.words.specs.Lists.{over, In, top, pop}
-use Rattle.text_writers.specs.Texts.{partOf, Every, no-more, one-more}
+use Rattle.text_writers.specs.Texts.{stretchOf, Every, no-more, one-more}
 use Rattle.rules.specs.Answers.{laid, numberOf, valueIn, valuesOf, wordCount}
 use Rattle.rules.specs.declared.Answer.{Answer}
 use Rattle.rules.specs.declared.Part.{Part}
@@ -17,7 +17,7 @@ use Rattle.answer_text.specs.AnswerText.{numberShown, partShown, fieldsI
 
 -- ---- the report's first words
 
-part-append : (from n : ℕ) (xs ys : List ℕ) → from + n ≤ length xs → partOf (xs ++ ys) from n ≡ partOf xs from n
+part-append : (from n : ℕ) (xs ys : List ℕ) → from + n ≤ length xs → stretchOf (xs ++ ys) from n ≡ stretchOf xs from n
 part-append zero zero xs ys h = refl
 part-append zero (suc n) [] ys h = absurd (omega arith)
 part-append zero (suc n) (x ∷ xs) ys h = ap (λ (r : List ℕ). x ∷ r) (part-append zero n xs ys (omega arith))
@@ -25,7 +25,7 @@ part-append (suc from) n [] ys h = absurd (omega arith)
 part-append (suc from) n (x ∷ xs) ys h = part-append from n xs ys (omega arith)
 
 -- a part of the words that were written is theirs, and not the older report's
-pub part-over : (from n : ℕ) (ws rs : List ℕ) → from + n ≤ length ws → partOf (over ws rs) from n ≡ partOf ws from n
+pub part-over : (from n : ℕ) (ws rs : List ℕ) → from + n ≤ length ws → stretchOf (over ws rs) from n ≡ stretchOf ws from n
 unfolding over
 part-over from n ws rs h = part-append from n ws (drop (length ws) rs) h
 
@@ -43,7 +43,7 @@ fieldsOf-over a ws rs h =
 shown-length : (p : Part) (ws : List ℕ) (from : ℕ) → length (partShown p ws from) ≤ 1 + min (p .words) (length ws - from)
 shown-length p ws from = go (p .told)
   where
-    go : (b : Bool) → length (cond b (p .value ∷ partOf ws from (p .words)) []) ≤ 1 + min (p .words) (length ws - from)
+    go : (b : Bool) → length (cond b (p .value ∷ stretchOf ws from (p .words)) []) ≤ 1 + min (p .words) (length ws - from)
     go true = omega (arith, length-take (p .words) (drop from ws), length-drop from ws)
     go false = omega arith
 
@@ -79,7 +79,7 @@ module _ (P : ℕ → Type 0) where
   every-drop (suc n) no-more = no-more
   every-drop (suc n) (one-more p a) = every-drop n a
 
-  every-part : (from n : ℕ) {ws : List ℕ} → Every P ws → Every P (partOf ws from n)
+  every-part : (from n : ℕ) {ws : List ℕ} → Every P ws → Every P (stretchOf ws from n)
   every-part from n a = every-take n (every-drop from a)
 
   every-parted : (xs : List ℕ) {ys : List ℕ} → Every P (xs ++ ys) → Every P xs × Every P ys
@@ -93,7 +93,7 @@ module _ (P : ℕ → Type 0) where
   shown-every : (p : Part) (from : ℕ) {ws : List ℕ} → Every P (valueIn p) → Every P ws → Every P (partShown p ws from)
   shown-every p from {ws} v w = go (p .told) v
     where
-      go : (b : Bool) → Every P (cond b (p .value ∷ []) []) → Every P (cond b (p .value ∷ partOf ws from (p .words)) [])
+      go : (b : Bool) → Every P (cond b (p .value ∷ []) []) → Every P (cond b (p .value ∷ stretchOf ws from (p .words)) [])
       go true (one-more q u) = one-more q (every-part from (p .words) w)
       go false u = no-more
 

@@ -17,7 +17,7 @@ use Rattle.rules.specs.declared.Answer.{Answer}
 use Rattle.rules.specs.declared.Answer.the-variants.{Set, Cycle, Ended, RefusedAt, RefusedBlamed, RefusedBlamedAt}
 use Rattle.rules.specs.Answers.{laid, numberOf, valuesOf}
 use Rattle.rules.specs.Demands.{Refusal, plain, placed, blamed, blamed-at}
-use Rattle.answer_text.specs.AnswerText.{refusedWord, wordIn, fieldsIn, fieldsOf, answerText}
+use Rattle.answer_text.specs.AnswerText.{refusedText, wordFor, fieldsIn, fieldsOf, answerText}
 
 -- a refusal shows its number and its values, and nothing else
 pub refusal-shown : {a : Answer} (rs : List ℕ) → Refusal a → fieldsOf a rs ≡ numberOf a ∷ valuesOf a
@@ -42,18 +42,18 @@ ended-shown promises tasks =
     rw (take-append-seam promises tasks, drop-append-seam promises tasks, take-all (length tasks) tasks (omega arith)) (append-nil _)
 
 -- `refused r i`: the number of the line, the word and both numbers, with tabs between them and an LF at the end
-pub placed-text : (n r i : ℕ) (rs : List ℕ) → answerText n (RefusedAt r i) rs ≡ dec n ++ tab ∷ (refusedWord ++ tab ∷ (dec r ++ tab ∷ dec i) ++ lineEnd ∷ [])
-unfolding laid answerText wordIn fieldsIn fieldsText
+pub placed-text : (n r i : ℕ) (rs : List ℕ) → answerText n (RefusedAt r i) rs ≡ dec n ++ tab ∷ (refusedText ++ tab ∷ (dec r ++ tab ∷ dec i) ++ lineEnd ∷ [])
+unfolding laid answerText wordFor fieldsIn fieldsText
 placed-text n r i rs = rw (append-nil (tab ∷ dec i))
 
 -- `refused 17 b`, and `refused 17 i b` for an entry
-pub blamed-text : (n b : ℕ) (rs : List ℕ) → answerText n (RefusedBlamed b) rs ≡ dec n ++ tab ∷ (refusedWord ++ tab ∷ (dec 17 ++ tab ∷ dec b) ++ lineEnd ∷ [])
-unfolding laid answerText wordIn fieldsIn fieldsText
+pub blamed-text : (n b : ℕ) (rs : List ℕ) → answerText n (RefusedBlamed b) rs ≡ dec n ++ tab ∷ (refusedText ++ tab ∷ (dec 17 ++ tab ∷ dec b) ++ lineEnd ∷ [])
+unfolding laid answerText wordFor fieldsIn fieldsText
 blamed-text n b rs = rw (append-nil (tab ∷ dec b))
 
 pub blamed-at-text : (n i b : ℕ) (rs : List ℕ)
-    → answerText n (RefusedBlamedAt i b) rs ≡ dec n ++ tab ∷ (refusedWord ++ tab ∷ (dec 17 ++ tab ∷ (dec i ++ tab ∷ dec b)) ++ lineEnd ∷ [])
-unfolding laid answerText wordIn fieldsIn fieldsText
+    → answerText n (RefusedBlamedAt i b) rs ≡ dec n ++ tab ∷ (refusedText ++ tab ∷ (dec 17 ++ tab ∷ (dec i ++ tab ∷ dec b)) ++ lineEnd ∷ [])
+unfolding laid answerText wordFor fieldsIn fieldsText
 blamed-at-text n i b rs = rw (append-nil (tab ∷ dec b))
 
 pub put-answer-unique : (n : ℕ) (a : Answer) (rs : List ℕ) {o x y : List ℕ} {r q : ℕ} → Wrote (answerText n a rs) o x r → Wrote (answerText n a rs) o y q

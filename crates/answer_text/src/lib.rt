@@ -7,73 +7,73 @@ use rules::Layout;
 use rules::Part;
 ghost use mathlib.Core.List.{[], _∷_};
 ghost use Rattle.text_buffers.specs.Buffers.{Wrote, Added};
-ghost use Rattle.text_writers.specs.Texts.{fieldsText, partOf};
-ghost use Rattle.answer_text.specs.AnswerText.{refusedWord, openedWord, madeWord, setWord, valueWord, blamedWord, waitsWord, cycleWord, startedWord, endedWord, wordIn, numberShown, partShown, fieldsIn, answerText};
+ghost use Rattle.text_writers.specs.Texts.{fieldsText, stretchOf};
+ghost use Rattle.answer_text.specs.AnswerText.{refusedText, openedText, madeText, setText, valueText, blamedText, waitsText, cycleText, startedText, endedText, wordFor, numberShown, partShown, fieldsIn, answerText};
 
 // The words of the answers.
 fn add_refused(out: &mut [u8], at: usize) -> usize
-    ensures { λ r. ⌜ Added refusedWord (now (out .entry)) at (now (out .exit)) r ⌝ }
+    ensures { λ r. ⌜ Added refusedText (now (out .entry)) at (now (out .exit)) r ⌝ }
 {
     text_writers::add_bytes(out, at, b"refused")
 }
 
 fn add_opened(out: &mut [u8], at: usize) -> usize
-    ensures { λ r. ⌜ Added openedWord (now (out .entry)) at (now (out .exit)) r ⌝ }
+    ensures { λ r. ⌜ Added openedText (now (out .entry)) at (now (out .exit)) r ⌝ }
 {
     text_writers::add_bytes(out, at, b"opened")
 }
 
 fn add_made(out: &mut [u8], at: usize) -> usize
-    ensures { λ r. ⌜ Added madeWord (now (out .entry)) at (now (out .exit)) r ⌝ }
+    ensures { λ r. ⌜ Added madeText (now (out .entry)) at (now (out .exit)) r ⌝ }
 {
     text_writers::add_bytes(out, at, b"made")
 }
 
 fn add_set(out: &mut [u8], at: usize) -> usize
-    ensures { λ r. ⌜ Added setWord (now (out .entry)) at (now (out .exit)) r ⌝ }
+    ensures { λ r. ⌜ Added setText (now (out .entry)) at (now (out .exit)) r ⌝ }
 {
     text_writers::add_bytes(out, at, b"set")
 }
 
 fn add_value(out: &mut [u8], at: usize) -> usize
-    ensures { λ r. ⌜ Added valueWord (now (out .entry)) at (now (out .exit)) r ⌝ }
+    ensures { λ r. ⌜ Added valueText (now (out .entry)) at (now (out .exit)) r ⌝ }
 {
     text_writers::add_bytes(out, at, b"value")
 }
 
 fn add_blamed(out: &mut [u8], at: usize) -> usize
-    ensures { λ r. ⌜ Added blamedWord (now (out .entry)) at (now (out .exit)) r ⌝ }
+    ensures { λ r. ⌜ Added blamedText (now (out .entry)) at (now (out .exit)) r ⌝ }
 {
     text_writers::add_bytes(out, at, b"blamed")
 }
 
 fn add_waits(out: &mut [u8], at: usize) -> usize
-    ensures { λ r. ⌜ Added waitsWord (now (out .entry)) at (now (out .exit)) r ⌝ }
+    ensures { λ r. ⌜ Added waitsText (now (out .entry)) at (now (out .exit)) r ⌝ }
 {
     text_writers::add_bytes(out, at, b"waits")
 }
 
 fn add_cycle(out: &mut [u8], at: usize) -> usize
-    ensures { λ r. ⌜ Added cycleWord (now (out .entry)) at (now (out .exit)) r ⌝ }
+    ensures { λ r. ⌜ Added cycleText (now (out .entry)) at (now (out .exit)) r ⌝ }
 {
     text_writers::add_bytes(out, at, b"cycle")
 }
 
 fn add_started(out: &mut [u8], at: usize) -> usize
-    ensures { λ r. ⌜ Added startedWord (now (out .entry)) at (now (out .exit)) r ⌝ }
+    ensures { λ r. ⌜ Added startedText (now (out .entry)) at (now (out .exit)) r ⌝ }
 {
     text_writers::add_bytes(out, at, b"started")
 }
 
 fn add_ended(out: &mut [u8], at: usize) -> usize
-    ensures { λ r. ⌜ Added endedWord (now (out .entry)) at (now (out .exit)) r ⌝ }
+    ensures { λ r. ⌜ Added endedText (now (out .entry)) at (now (out .exit)) r ⌝ }
 {
     text_writers::add_bytes(out, at, b"ended")
 }
 
 // The word of an answer.
 fn add_word(out: &mut [u8], at: usize, refuses: bool, number: u16) -> usize
-    ensures { λ r. ⌜ Added (wordIn refuses number) (now (out .entry)) at (now (out .exit)) r ⌝ }
+    ensures { λ r. ⌜ Added (wordFor refuses number) (now (out .entry)) at (now (out .exit)) r ⌝ }
 {
     if refuses {
         return add_refused(out, at);
@@ -124,7 +124,7 @@ fn add_list(
     from: usize,
     words: usize,
 ) -> usize
-    ensures { λ r. ⌜ Added (fieldsText (count ∷ partOf (now (report .entry)) from words)) (now (out .entry)) at (now (out .exit)) r ⌝ }
+    ensures { λ r. ⌜ Added (fieldsText (count ∷ stretchOf (now (report .entry)) from words)) (now (out .entry)) at (now (out .exit)) r ⌝ }
 {
     let e = add_field(out, at, count);
     text_writers::add_part(out, e, report, from, words)

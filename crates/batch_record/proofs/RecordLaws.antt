@@ -31,7 +31,7 @@ use Rattle.step_kinds.specs.Kinds.{shapeOf, takesList}
 use Rattle.steps.specs.Named.{stepBy}
 use Rattle.steps.proofs.NamedLaws.{stepBy-plain}
 use Rattle.batch_record.specs.declared.Record.{Record}
-use Rattle.batch_record.specs.Records.{partOf, stepOf, partRows, rawRecord, Turns}
+use Rattle.batch_record.specs.Records.{listedPart, stepOf, partRows, rawRecord, Turns}
 
 -- ---- refusal 16
 
@@ -63,7 +63,7 @@ module _ (F : Form) (s : Tables) (list : List ℕ) (r : Record) where
   pub plain-taken : {s′ : Tables} {rs rs′ : List ℕ} {a : Answer} → takesList (shapeOf (r .kind)) ≡ false → Gives (raw F s (stepBy (r .kind) (r .task) (r .other) list)) rs a s′ rs′ → Gives (rawRecord F list s r) rs a s′ rs′
   plain-taken {s′} {rs} {rs′} {a} h g =
       gives-passed _ s (sym (part-not-given list r (λ z. absurd (true-is-not-false (sym z ∙ h))))) refl
-      (subst (λ (y : Step). Gives (raw F s y) rs a s′ rs′) (stepBy-plain (r .kind) (r .task) (r .other) list (partOf list r) h) g)
+      (subst (λ (y : Step). Gives (raw F s y) rs a s′ rs′) (stepBy-plain (r .kind) (r .task) (r .other) list (listedPart list r) h) g)
 
 -- ---- the words of a record's step
 

@@ -12,11 +12,11 @@ use Rattle.words.specs.Words.{Form}
 use Rattle.rules.specs.Tables.{Tables}
 use Rattle.rules.specs.Answers.{byNumber}
 use Rattle.rules.specs.Refusals.{Row, first, tableRows}
-use Rattle.rules.specs.Steps.{Step, step-new, step-set, step-get, step-async, step-end, Outcome, outcome, guarded, rows, stepRefused, effect, raw, step}
+use Rattle.rules.specs.Steps.{Outcome, outcome, guarded, rows, stepRefused, effect, raw, step}
 use Rattle.rules.specs.Demands.{numbers, paperRows, FirstGiven}
 use Rattle.rules.specs.declared.Answer.the-variants.{Refused}
 use Rattle.rules.proofs.GuardLaws.{guarded-none}
-use Rattle.rules.proofs.Order.{numbered-append, tableRows-numbered, rows-numbered, guarded-joined, guarded-refused, guarded-first, effect-refuses-at, tables-plain}
+use Rattle.rules.proofs.Order.{own-order, numbered-append, tableRows-numbered, rows-numbered, guarded-joined, guarded-refused, guarded-first, effect-refuses-at, tables-plain}
 use Rattle.rules.proofs.AnswerLaws.{stepRefused-number, stepRefused-plain}
 use Rattle.rules.proofs.RefusalLaws.{Numbered, row, no-row}
 use Rattle.step_kinds.specs.Kinds.{shapeOf, takesList}
@@ -33,14 +33,6 @@ module _ (F : Form) (n : ℕ) (list : List ℕ) (s : Tables) (r : Record) where
   pub the-step-it-names : (takesList (shapeOf (r .kind)) ≡ true → r .start + r .length ≤ length list) → stepRecord F n list s r ≡ step F n s (stepOf list r)
   the-step-it-names h = ap (guarded byNumber (first (tableRows F n s)) s) (guarded-none _ (first (partRows list r)) s (raw F s (stepOf list r)) (part-not-given list r h))
 
-  -- from 3 on
-  in-order : (x : Step) → numbers (rows F s x) ≡ drop 2 (paperRows x)
-  in-order (step-new t p) = refl
-  in-order (step-set t p) = refl
-  in-order (step-get t p) = refl
-  in-order (step-async t c l) = refl
-  in-order (step-end t) = refl
-
   part-numbered : Numbered (partRows list r)
   part-numbered = row (eqb-false 16 0 refl) no-row
 
@@ -55,7 +47,7 @@ module _ (F : Form) (n : ℕ) (list : List ℕ) (s : Tables) (r : Record) where
 
   -- "16 .. stands for its step directly after 2"; the others stand in the paper's order
   pub sixteen-after-two : numbers recordRows ≡ 1 ∷ 2 ∷ 16 ∷ drop 2 (paperRows (stepOf list r))
-  sixteen-after-two = ap (λ (l : List ℕ). 1 ∷ 2 ∷ 16 ∷ l) (in-order (stepOf list r))
+  sixteen-after-two = ap (λ (l : List ℕ). 1 ∷ 2 ∷ 16 ∷ l) (own-order F s (stepOf list r))
 
   -- one guard by all of them
   joined : stepRecord F n list s r ≡ guarded (stepRefused F s (stepOf list r)) (first recordRows) s (effect F s (stepOf list r))

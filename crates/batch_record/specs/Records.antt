@@ -1,7 +1,7 @@
 -- The step that a record of a batch names. Paper: 02, 2/13: "step records, .. each with its kind (one of the five), numbers and, for async, a start and a length in one lent list of
 -- promises".
 --
---   partOf list r            the part of the list that the record r lists
+--   listedPart list r            the part of the list that the record r lists
 --   stepOf list r            the step
 --   partRows list r          refusal 16
 --   rawRecord F list s r     what the step answers, does and reports, without refusals 1 and 2: as `raw`
@@ -25,11 +25,11 @@ use Rattle.step_kinds.specs.Kinds.{shapeOf, takesList}
 use Rattle.steps.specs.Named.{stepBy}
 use Rattle.batch_record.specs.declared.Record.{Record}
 
-abbrev pub partOf : List ℕ → Record → List ℕ
-partOf list r = take (r .length) (drop (r .start) list)
+abbrev pub listedPart : List ℕ → Record → List ℕ
+listedPart list r = take (r .length) (drop (r .start) list)
 
 abbrev pub stepOf : List ℕ → Record → Step
-stepOf list r = stepBy (r .kind) (r .task) (r .other) (partOf list r)
+stepOf list r = stepBy (r .kind) (r .task) (r .other) (listedPart list r)
 
 -- "16, a list part whose start plus length passes the list's, stands for its step directly after 2"
 abbrev pub partRows : List ℕ → Record → List Row

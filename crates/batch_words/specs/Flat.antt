@@ -1,7 +1,7 @@
 -- The batch in flat words. Paper: 02, 2/13, for callers that know numbers alone.
 --
 --   kindOf k, kindWord c     the kind that the word k stands for, and the word of the kind c
---   recordOf k t o a n       the record of five words
+--   recordBy k t o a n       the record of five words
 --   recordIn ws i            the record whose words begin at i
 --   recordsOf ws             the records that the words stand for
 --   wordsOf rs               the words of records
@@ -30,11 +30,11 @@ use Rattle.batch.specs.Batches.{CallOutcome, refused, batched}
 unfoldable pub kindOf : ℕ → Kind
 kindOf k = cond (eqb k 0) New (cond (eqb k 1) Set (cond (eqb k 2) Get (cond (eqb k 3) Async End)))
 
-abbrev pub recordOf : ℕ → ℕ → ℕ → ℕ → ℕ → Record
-recordOf k t o a n = record { kind = kindOf k; task = t; other = o; start = a; length = n }
+abbrev pub recordBy : ℕ → ℕ → ℕ → ℕ → ℕ → Record
+recordBy k t o a n = record { kind = kindOf k; task = t; other = o; start = a; length = n }
 
 unfoldable pub recordIn : List ℕ → ℕ → Record
-recordIn ws i = recordOf (getD ws i 0) (getD ws (i + 1) 0) (getD ws (i + 2) 0) (getD ws (i + 3) 0) (getD ws (i + 4) 0)
+recordIn ws i = recordBy (getD ws i 0) (getD ws (i + 1) 0) (getD ws (i + 2) 0) (getD ws (i + 3) 0) (getD ws (i + 4) 0)
 
 -- five words each; too few words for a record stand for none
 unfoldable pub recordsOf : List ℕ → List Record
@@ -43,7 +43,7 @@ recordsOf (k ∷ []) = []
 recordsOf (k ∷ t ∷ []) = []
 recordsOf (k ∷ t ∷ o ∷ []) = []
 recordsOf (k ∷ t ∷ o ∷ a ∷ []) = []
-recordsOf (k ∷ t ∷ o ∷ a ∷ n ∷ ws) = recordOf k t o a n ∷ recordsOf ws
+recordsOf (k ∷ t ∷ o ∷ a ∷ n ∷ ws) = recordBy k t o a n ∷ recordsOf ws
 
 unfoldable pub kindWord : Kind → ℕ
 kindWord New = 0

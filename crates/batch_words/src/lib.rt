@@ -8,7 +8,7 @@ use words::Limit;
 ghost use mathlib.Core.Path.{_≡_};
 ghost use Prim.Native.Nat.{_*_, _≤_};
 ghost use lib.ListN.{length, take};
-ghost use Rattle.words.specs.Words.{small};
+ghost use Rattle.words.specs.Words.{small, mostRecords};
 ghost use Rattle.rules.specs.Tables.{tables as tablesOf};
 ghost use Rattle.batch.specs.Batches.{batched, Batches};
 ghost use Rattle.batch_words.specs.Flat.{kindOf, recordIn, recordsOf, isFlat, calledNumber, flatly, Flats};
@@ -66,11 +66,11 @@ fn is_flat(steps: &[u16]) -> bool
 }
 
 // The `n` records that the words stand for, at the front of an array.
-fn records_of(steps: &[u16], n: usize) -> [Record; 256]
-    requires { ⌜ (n ≤ 256) × (length (now steps) ≡ n * 5) ⌝ }
+fn records_of(steps: &[u16], n: usize) -> [Record; Limit::RECORDS]
+    requires { ⌜ (n ≤ mostRecords) × (length (now steps) ≡ n * 5) ⌝ }
     ensures { λ r. ⌜ take n r ≡ recordsOf (now (steps .entry)) ⌝ }
 {
-    let mut records = [record_of(steps, 0); 256];
+    let mut records = [record_of(steps, 0); Limit::RECORDS];
     let mut i = 0;
     while i < n {
         records[i] = record_of(steps, i * 5);
@@ -84,12 +84,12 @@ fn batch_first(
     tasks: &mut [u16],
     promises: &mut [u16],
     report: &mut [u16],
-    records: [Record; 256],
+    records: [Record; Limit::RECORDS],
     n: usize,
     list: &[u16],
     answers: &mut [u16],
 ) -> Called
-    requires { ⌜ n ≤ 256 ⌝ }
+    requires { ⌜ n ≤ mostRecords ⌝ }
     ensures { λ r. ⌜ Batches (batched small (now (list .entry)) (tablesOf (now (tasks .entry)) (now (promises .entry))) (take n records) (length (now (report .entry))) (length (now (answers .entry)))) (now (report .entry)) (now (answers .entry)) r (tablesOf (now (tasks .exit)) (now (promises .exit))) (now (report .exit)) (now (answers .exit)) ⌝ }
 {
     batch(tasks, promises, report, &records[0..n], list, answers)

@@ -7,6 +7,7 @@ use native.Mathlib.Omega.{arith}
 use lib.ListN.{length, take, drop, length-drop, drop-of-length-le, replicate}
 use lib.Seq.{length-take-le}
 use borrow.Rule.Slice.PartMut.{putMid}
+use Rattle.words.specs.Words.{longestAnswer, longestLine, lineReport}
 use Rattle.words.proofs.BoolLaws.{clash}
 use Rattle.rules.specs.Tables.{Tables, tables}
 use Rattle.text_buffers.proofs.BufferLaws.{rest-lent}
@@ -14,7 +15,7 @@ use Rattle.line_gather.specs.Gather.{isLast}
 use Rattle.line_session.specs.declared.Session.the-variants.{Unopened}
 use Rattle.line_serving.specs.declared.Served.{Served}
 use Rattle.line_serving.specs.Serving.{Turn, turnOf, Serves}
-use Rattle.line_serving.specs.Input.{Desk, opening, feed, ended, Takes}
+use Rattle.line_serving.specs.Input.{Desk, opening, feed, ended, Advances, zeroTables}
 use Rattle.line_serving.proofs.Theorems.{serve-takes, opening-buffered, last-is-last}
 use Rattle.bench.specs.declared.State.{State}
 use Rattle.bench.specs.Carrying.{Carries, Waiting, At, Fed, Ends}
@@ -35,8 +36,8 @@ pub carried : (b : List ℕ) (was s : State) (x : List ℕ) (st : Tables) (rs ou
     → s .from ≡ was .from → s .have ≡ was .have → s .lines ≡ was .lines → s .session ≡ was .session
     → Serves (turnOf b (s .from) x (s .have) (s .lines) (s .session) st rs (take (length out - s .used) (drop (s .used) out))) q x′ st′ rs′ out′
     → r .from ≡ q .next → r .have ≡ q .have → r .lines ≡ q .lines → r .session ≡ q .session → r .used ≡ s .used + q .bytes → (r .going ≡ true → q .going ≡ true)
-    → s .used + 2048 ≤ length out → (0 < s .used → s .used ≡ was .used)
-    → (n : ℕ) × (n + 2048 ≤ length out) × (0 < n → n ≡ was .used) × Carries (turnOf b (was .from) x (was .have) (was .lines) (was .session) st rs (drop n out)) n out r x′ st′ rs′ (putMid (s .used) (length out - s .used) out out′)
+    → s .used + longestAnswer ≤ length out → (0 < s .used → s .used ≡ was .used)
+    → (n : ℕ) × (n + longestAnswer ≤ length out) × (0 < n → n ≡ was .used) × Carries (turnOf b (was .from) x (was .have) (was .lines) (was .session) st rs (drop n out)) n out r x′ st′ rs′ (putMid (s .used) (length out - s .used) out out′)
 carried b was s x st rs out {q} {x′} {st′} {rs′} {out′} e₁ e₂ e₃ e₄ v f g h i u k l m =
     let w = subst (λ (o : List ℕ). Serves (turnOf b (s .from) x (s .have) (s .lines) (s .session) st rs o) q x′ st′ rs′ out′) (rest-lent out (s .used)) v in (
       s .used,
@@ -115,7 +116,7 @@ fed-none d b s x st rs o e h = record { desk = d; bytes = ap (λ (i : ℕ). feed
 
 -- what a turn takes and carries on
 taken : (d d′ : Desk) (b : List ℕ) (from : ℕ) (t : Turn) (n : ℕ) (o : List ℕ) (r : State) (x : List ℕ) (st : Tables) (rs out : List ℕ) → n ≤ length o → Waiting (d .said) n o
-    → Takes d b from t d′ → Carries t n o r x st rs out → Fed d b from r x st rs out
+    → Advances d b from t d′ → Carries t n o r x st rs out → Fed d b from r x st rs out
 taken d d′ b from t n o r x st rs out l w k c = record {
   desk = d′;
   bytes = k .bytes ∙ ap (λ (i : ℕ). feed d′ (drop i b)) (sym (c .from));
@@ -133,7 +134,7 @@ taken d d′ b from t n o r x st rs out l w k c = record {
 module _ (b : List ℕ) (was r : State) (x : List ℕ) (st : Tables) (rs o x′ : List ℕ) (st′ : Tables) (rs′ o′ : List ℕ) where
   -- one line more, from where the desk d is
   fed-line : (d : Desk) → was .from < length b → was .going ≡ true
-      → ((n : ℕ) × (n + 2048 ≤ length o) × (0 < n → n ≡ was .used) × Carries (turnOf b (was .from) x (was .have) (was .lines) (was .session) st rs (drop n o)) n o r x′ st′ rs′ o′)
+      → ((n : ℕ) × (n + longestAnswer ≤ length o) × (0 < n → n ≡ was .used) × Carries (turnOf b (was .from) x (was .have) (was .lines) (was .session) st rs (drop n o)) n o r x′ st′ rs′ o′)
       → At d was x st rs o → Fed d b (was .from) r x′ st′ rs′ o′
   fed-line d l g (n, m, k, c) h =
       let t = serve-takes d b (was .from) x (was .have) (drop n o) (omega (arith, length-drop n o)) l (h .going g) (h .buffer) in
@@ -142,7 +143,7 @@ module _ (b : List ℕ) (was r : State) (x : List ℕ) (st : Tables) (rs o x′ 
 
   -- one line more, after those that were taken
   pub fed-more : (d : Desk) (i : ℕ) → was .from < length b → was .going ≡ true
-      → ((n : ℕ) × (n + 2048 ≤ length o) × (0 < n → n ≡ was .used) × Carries (turnOf b (was .from) x (was .have) (was .lines) (was .session) st rs (drop n o)) n o r x′ st′ rs′ o′)
+      → ((n : ℕ) × (n + longestAnswer ≤ length o) × (0 < n → n ≡ was .used) × Carries (turnOf b (was .from) x (was .have) (was .lines) (was .session) st rs (drop n o)) n o r x′ st′ rs′ o′)
       → Fed d b i was x st rs o → Fed d b i r x′ st′ rs′ o′
   fed-more d i l g c f = let t = fed-line (f .desk) l g c (f .at) in record { desk = t .desk; bytes = f .bytes ∙ t .bytes; at = t .at }
 
@@ -157,8 +158,8 @@ fed-all d b r x st rs o e f = subst (λ (y : Desk). At y r x st rs o) (sym (f .b
 -- ---- before the first block, between two, and after the last
 
 -- THE PROGRAM STARTS WHERE THE DESK OPENS, with any line buffer of the right length, with empty tables and with any output array
-pub opening-at : (s : State) (x o : List ℕ) → length x ≡ 2048 → s .used ≡ 0 → s .have ≡ 0 → s .lines ≡ 0 → s .session ≡ Unopened
-    → At opening s x (tables (replicate 64 0) (replicate 256 0)) (replicate 384 0) o
+pub opening-at : (s : State) (x o : List ℕ) → length x ≡ longestLine → s .used ≡ 0 → s .have ≡ 0 → s .lines ≡ 0 → s .session ≡ Unopened
+    → At opening s x zeroTables (replicate lineReport 0) o
 opening-at s x o l e₁ e₂ e₃ e₄ = record {
   buffer = rw e₂ (opening-buffered x l);
   lines = sym e₃;

@@ -3,10 +3,12 @@
 // line's room is left and before every read, so that a partner on a pipe is never left waiting. What is decided about lines stands in the crate serving; what is
 // written to standard output is held to stdout, and not proved.
 use line_session::Session;
+use words::Limit;
 ghost use mathlib.Core.Path.{_≡_};
 ghost use Prim.Native.Nat.{ℕ, _+_, _≤_, _<_};
 ghost use mathlib.Core.Bool.{true};
 ghost use lib.ListN.{length, drop};
+ghost use Rattle.words.specs.Words.{longestAnswer};
 ghost use Rattle.rules.specs.Tables.{tables as tablesOf};
 ghost use Rattle.line_session.specs.declared.Session.the-variants.{Unopened};
 ghost use Rattle.line_serving.specs.Serving.{turnOf};
@@ -62,9 +64,9 @@ fn put_out(out: &[u8], s: State) -> State
 // Sees that the output array has room for an answer line.
 fn with_room(out: &[u8], s: State) -> State
     requires { ⌜ (s .used ≤ length (now out)) × (length (now out) ≡ 32768) ⌝ }
-    ensures { λ r. ⌜ (r .from ≡ s .from) × (r .used + 2048 ≤ length (now (out .entry))) × (r .have ≡ s .have) × (r .lines ≡ s .lines) × (r .session ≡ s .session) × (0 < r .used → r .used ≡ s .used) ⌝ }
+    ensures { λ r. ⌜ (r .from ≡ s .from) × (r .used + longestAnswer ≤ length (now (out .entry))) × (r .have ≡ s .have) × (r .lines ≡ s .lines) × (r .session ≡ s .session) × (0 < r .used → r .used ≡ s .used) ⌝ }
 {
-    if out.len() - s.used < 2048 {
+    if out.len() - s.used < Limit::ANSWER {
         return put_out(out, s);
     }
     s
@@ -82,7 +84,7 @@ fn serve_line(
 ) -> State
     requires { ⌜ (was .from < length (now block)) × (was .used ≤ length (now out)) × (length (now out) ≡ 32768) ⌝ }
     ensures { λ r. ⌜ (was .from < r .from) × (r .from ≤ length (now (block .entry))) × (r .used ≤ length (now (out .entry))) ⌝ }
-    ensures { λ r. ⌜ ((n : ℕ) × (n + 2048 ≤ length (now (out .entry))) × (0 < n → n ≡ was .used) × Carries (turnOf (now (block .entry)) (was .from) (now (line .entry)) (was .have) (was .lines) (was .session) (tablesOf (now (tasks .entry)) (now (promises .entry))) (now (report .entry)) (drop n (now (out .entry)))) n (now (out .entry)) r (now (line .exit)) (tablesOf (now (tasks .exit)) (now (promises .exit))) (now (report .exit)) (now (out .exit))) ⌝ }
+    ensures { λ r. ⌜ ((n : ℕ) × (n + longestAnswer ≤ length (now (out .entry))) × (0 < n → n ≡ was .used) × Carries (turnOf (now (block .entry)) (was .from) (now (line .entry)) (was .have) (was .lines) (was .session) (tablesOf (now (tasks .entry)) (now (promises .entry))) (now (report .entry)) (drop n (now (out .entry)))) n (now (out .entry)) r (now (line .exit)) (tablesOf (now (tasks .exit)) (now (promises .exit))) (now (report .exit)) (now (out .exit))) ⌝ }
 {
     let s = with_room(out, was);
     let used = s.used;
@@ -198,11 +200,11 @@ fn run(
 
 fn main() {
     let mut block = [0u8; 16384];
-    let mut line = [0u8; 2048];
+    let mut line = [0u8; Limit::LINE];
     let mut out = [0u8; 32768];
-    let mut report = [0u16; 384];
-    let mut promises = [0u16; 256];
-    let mut tasks = [0u16; 64];
+    let mut report = [0u16; Limit::REPORT];
+    let mut promises = [0u16; Limit::PROMISES];
+    let mut tasks = [0u16; Limit::TASKS];
     run(
         &mut block,
         &mut line,

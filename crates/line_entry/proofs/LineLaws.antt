@@ -9,25 +9,24 @@ use lib.Dec.{eqb, leb}
 use borrow.Author.Tests.{eqb-true, leb-true, lt-ltb, le-ltb}
 use lib.ListN.{length, take, drop, length-replicate}
 use lib.Seq.{take-append-seam, take-all}
-use Rattle.words.specs.Words.{small, lastLine}
+use Rattle.words.specs.Words.{ofLines, lastLine, longestLine, longestAnswer, lineReport, mostEntries}
 use Rattle.words.specs.Lists.{over}
 use Rattle.words.proofs.BoolLaws.{and-split}
 use Rattle.rules.specs.Tables.{Tables, partOf}
-use Rattle.rules.specs.Sessions.{freshRefusal}
+use Rattle.rules.specs.Refusals.{freshRefusal}
 use Rattle.rules.specs.declared.Answer.{Answer}
 use Rattle.rules.specs.declared.Answer.the-variants.{Refused}
 use Rattle.step_kinds.specs.declared.Kind.{Kind}
 use Rattle.steps.specs.Named.{stepBy}
-use Rattle.text_forms.specs.declared.Form.{Form as LineForm}
-use Rattle.text_forms.specs.declared.Form.the-variants as F
-use Rattle.text_forms.specs.Judging.{countIn, formOf, entriesOf, InLine, Judged}
-use Rattle.text_forms.specs.Forms.{longestLine}
-use Rattle.text_forms.proofs.JudgingLaws.{formOf-long, entriesOf-long}
+use Rattle.text_forms.specs.declared.LineForm.{LineForm as LineForm}
+use Rattle.text_forms.specs.declared.LineForm.the-variants as F
+use Rattle.text_forms.specs.Judging.{entryCount, lineForm, entriesOf, InLine, Judged}
+use Rattle.text_forms.proofs.JudgingLaws.{lineForm-long, entriesOf-long}
 use Rattle.text_forms.proofs.Theorems.{step-counts, entries-half, judged-whole, column-in-line}
 use Rattle.text_buffers.specs.Buffers.{fitting, Wrote}
 use Rattle.words.proofs.ListLaws.{over-length}
 use Rattle.text_buffers.proofs.BufferLaws.{fitting-most, wrote-room}
-use Rattle.answer_text.specs.AnswerText.{answerText, longestAnswer}
+use Rattle.answer_text.specs.AnswerText.{answerText}
 use Rattle.answer_text.proofs.Fits.{refused-fits, placed-fits, opened-fits, step-answer-fits}
 use Rattle.line_session.specs.declared.Session.{Session}
 use Rattle.line_session.specs.declared.Session.the-variants.{Unopened, Open}
@@ -42,8 +41,8 @@ use Rattle.line_entry.specs.Lines.{lentWell, entered, notEntered, Enters
 pub record Lent (n : ℕ) (session : Session) (st : Tables) (report out : ℕ) : Type 0 where
   pub most : n ≤ lastLine
   pub session-is : inSession session ≡ true
-  pub tasks-are : length (st .tasks) ≡ 64
-  pub promises-are : length (st .promises) ≡ 256
+  pub tasks-are : length (st .tasks) ≡ ofLines .mostTasks
+  pub promises-are : length (st .promises) ≡ ofLines .mostPromises
   pub room : longestAnswer ≤ out
 
 pub lentWell-true : (n : ℕ) (session : Session) (st : Tables) (report out : ℕ) → lentWell n session st report out ≡ true → Lent n session st report out
@@ -51,49 +50,49 @@ unfolding lentWell
 lentWell-true n session st report out e =
     let tasks = length (st .tasks) in
     let promises = length (st .promises) in
-    let (abc, d) = and-split ((leb 1 n && leb n lastLine) && inSession session && (eqb tasks 64 && eqb promises 256)) (eqb report 384 && leb longestAnswer out) e in
-    let (ab, c) = and-split ((leb 1 n && leb n lastLine) && inSession session) (eqb tasks 64 && eqb promises 256) abc in
+    let (abc, d) = and-split ((leb 1 n && leb n lastLine) && inSession session && (eqb tasks (ofLines .mostTasks) && eqb promises (ofLines .mostPromises))) (eqb report lineReport && leb longestAnswer out) e in
+    let (ab, c) = and-split ((leb 1 n && leb n lastLine) && inSession session) (eqb tasks (ofLines .mostTasks) && eqb promises (ofLines .mostPromises)) abc in
     let (a, b) = and-split (leb 1 n && leb n lastLine) (inSession session) ab in
     let (a₁, a₂) = and-split (leb 1 n) (leb n lastLine) a in
-    let (c₁, c₂) = and-split (eqb tasks 64) (eqb promises 256) c in
-    let (d₁, d₂) = and-split (eqb report 384) (leb longestAnswer out) d in
-    record { most = leb-true n lastLine a₂; session-is = b; tasks-are = eqb-true tasks 64 c₁; promises-are = eqb-true promises 256 c₂; room = leb-true longestAnswer out d₂ }
+    let (c₁, c₂) = and-split (eqb tasks (ofLines .mostTasks)) (eqb promises (ofLines .mostPromises)) c in
+    let (d₁, d₂) = and-split (eqb report lineReport) (leb longestAnswer out) d in
+    record { most = leb-true n lastLine a₂; session-is = b; tasks-are = eqb-true tasks (ofLines .mostTasks) c₁; promises-are = eqb-true promises (ofLines .mostPromises) c₂; room = leb-true longestAnswer out d₂ }
 
 -- the lent words have room for every list
-pub count-most : (s : List ℕ) → countIn (formOf s) ≤ 1024
-unfolding countIn
-count-most s = go (formOf s) refl
+pub count-most : (s : List ℕ) → entryCount (lineForm s) ≤ mostEntries
+unfolding entryCount
+count-most s = go (lineForm s) refl
   where
-    go : (f : LineForm) → formOf s ≡ f → countIn f ≤ 1024
+    go : (f : LineForm) → lineForm s ≡ f → entryCount f ≤ mostEntries
     go (F.Open T P) e = omega arith
     go (F.Step k t p c) e = omega (arith, step-counts s k t p c e, entries-half s)
     go (F.Bad c) e = omega arith
 
 -- what the lent words then hold is the list of the line
-step-entries : (s o x : List ℕ) (k : Kind) (t p c : ℕ) → formOf s ≡ F.Step k t p c → x ≡ over (entriesOf s) o → take c x ≡ entriesOf s
+step-entries : (s o x : List ℕ) (k : Kind) (t p c : ℕ) → lineForm s ≡ F.Step k t p c → x ≡ over (entriesOf s) o → take c x ≡ entriesOf s
 unfolding over
 step-entries s o x k t p c e w =
     let n : c ≡ length (entriesOf s) = step-counts s k t p c e in
     rw (w, n) (take-append-seam (entriesOf s) (drop (length (entriesOf s)) o))
 
-pub deed-read : (s o x : List ℕ) (f : LineForm) (session : Session) (st : Tables) (n : ℕ) → Judged s o x f → 1024 ≤ length o
-    → deedOf f (take (countIn f) x) session st n ≡ deedOf (formOf s) (entriesOf s) session st n
-unfolding countIn over
+pub deed-read : (s o x : List ℕ) (f : LineForm) (session : Session) (st : Tables) (n : ℕ) → Judged s o x f → mostEntries ≤ length o
+    → deedOf f (take (entryCount f) x) session st n ≡ deedOf (lineForm s) (entriesOf s) session st n
+unfolding entryCount over
 deed-read s o x f session st n j h =
-    ap (λ (g : LineForm). deedOf g (take (countIn g) x) session st n) (j .form)
-    ∙ deed-list (formOf s) (take (countIn (formOf s)) x) (entriesOf s) session st n
-    (λ k t p c e. ap (λ (g : LineForm). take (countIn g) x) e ∙ step-entries s o x k t p c e (judged-whole j h))
+    ap (λ (g : LineForm). deedOf g (take (entryCount g) x) session st n) (j .form)
+    ∙ deed-list (lineForm s) (take (entryCount (lineForm s)) x) (entriesOf s) session st n
+    (λ k t p c e. ap (λ (g : LineForm). take (entryCount g) x) e ∙ step-entries s o x k t p c e (judged-whole j h))
 
 -- ---- every answer fits
 
 deed-fits : (f : LineForm) (vs : List ℕ) (session : Session) (st : Tables) (rs : List ℕ) (m n : ℕ) → n ≤ lastLine → InLine f
     → length (answerText n (deedOf f vs session st m .answer) (over (deedOf f vs session st m .words) rs)) ≤ longestAnswer
 unfolding deedOf unopenedDeed openDeed openOutcome
-deed-fits (F.Open T P) vs Unopened st rs m n h l = go (eqb (freshRefusal small T P) 0)
+deed-fits (F.Open T P) vs Unopened st rs m n h l = go (eqb (freshRefusal ofLines T P) 0)
   where
-    go : (b : Bool) → length (answerText n (cond b (opened T P st) (refusedBy (Refused (freshRefusal small T P)) Unopened st) .answer) (over (cond b (opened T P st) (refusedBy (Refused (freshRefusal small T P)) Unopened st) .words) rs)) ≤ longestAnswer
+    go : (b : Bool) → length (answerText n (cond b (opened T P st) (refusedBy (Refused (freshRefusal ofLines T P)) Unopened st) .answer) (over (cond b (opened T P st) (refusedBy (Refused (freshRefusal ofLines T P)) Unopened st) .words) rs)) ≤ longestAnswer
     go true = opened-fits n (over [] rs) h
-    go false = refused-fits n (freshRefusal small T P) (over [] rs) h (omega (arith, freshRefusal-most T P))
+    go false = refused-fits n (freshRefusal ofLines T P) (over [] rs) h (omega (arith, freshRefusal-most T P))
 deed-fits (F.Step k t p c) vs Unopened st rs m n h l = refused-fits n 15 (over [] rs) h (omega arith)
 deed-fits (F.Bad c) vs Unopened st rs m n h l = placed-fits n 14 c (over [] rs) h (omega arith) (omega (arith, l c refl))
 deed-fits (F.Open T′ P′) vs (Open T P) st rs m n h l = refused-fits n 15 (over [] rs) h (omega arith)
@@ -101,8 +100,8 @@ deed-fits (F.Step k t p c) vs (Open T P) st rs m n h l = step-answer-fits n m (p
 deed-fits (F.Bad c) vs (Open T P) st rs m n h l = placed-fits n 14 c (over [] rs) h (omega arith) (omega (arith, l c refl))
 
 pub line-fits : (line : List ℕ) (session : Session) (st : Tables) (rs : List ℕ) (n : ℕ) → n ≤ lastLine
-    → let d = deedOf (formOf line) (entriesOf line) session st (length rs) in length (answerText n (d .answer) (over (d .words) rs)) ≤ longestAnswer
-line-fits line session st rs n h = deed-fits (formOf line) (entriesOf line) session st rs (length rs) n h (column-in-line line)
+    → let d = deedOf (lineForm line) (entriesOf line) session st (length rs) in length (answerText n (d .answer) (over (d .words) rs)) ≤ longestAnswer
+line-fits line session st rs n h = deed-fits (lineForm line) (entriesOf line) session st rs (length rs) n h (column-in-line line)
 
 -- EVERY ANSWER LINE FITS INTO WHAT WAS LENT FOR IT
 pub entry-within : (line : List ℕ) (n : ℕ) (session : Session) (st : Tables) (rs out : List ℕ) → entryOf line n session st rs out .bytes ≤ length out
@@ -110,7 +109,7 @@ unfolding entryOf
 entry-within line n session st rs out = go (lentWell n session st (length rs) (length out)) refl
   where
     d : Deed
-    d = deedOf (formOf line) (entriesOf line) session st (length rs)
+    d = deedOf (lineForm line) (entriesOf line) session st (length rs)
 
     go : (b : Bool) → lentWell n session st (length rs) (length out) ≡ b → cond b (entered n rs out d) (notEntered session st rs out) .bytes ≤ length out
     go true e =
@@ -130,10 +129,10 @@ enters-of n rs out {d} {d′} {x} {e} {st} {rs′} {out′} z does fit wrote num
     record { number = number; session = session ∙ g .session; bytes = room .0; after = g .after; report = g .report; answer = room .1 }
 
 -- the list that a line was read into is as long as it was lent
-pub judged-count : (s o x : List ℕ) (f : LineForm) → Judged s o x f → 1024 ≤ length o → countIn f ≤ length x
+pub judged-count : (s o x : List ℕ) (f : LineForm) → Judged s o x f → mostEntries ≤ length o → entryCount f ≤ length x
 judged-count s o x f j h =
     let e : length x ≡ length o = ap (λ (l : List ℕ). length l) (j .words) ∙ over-length (fitting (entriesOf s) o) o (fitting-most (entriesOf s) o) in
-    let k : countIn f ≤ 1024 = subst (λ (g : LineForm). countIn g ≤ 1024) (sym (j .form)) (count-most s) in
+    let k : entryCount f ≤ mostEntries = subst (λ (g : LineForm). entryCount g ≤ mostEntries) (sym (j .form)) (count-most s) in
     omega arith
 
 -- ---- a line that was gathered
@@ -165,4 +164,4 @@ replied-whole x n session st rs out {r} {st′} {rs′} {out′} e =
 pub long-lines-alike : (s t : List ℕ) → longestLine < length s → longestLine < length t → (n : ℕ) (session : Session) (st : Tables) (rs out : List ℕ)
     → entryOf s n session st rs out ≡ entryOf t n session st rs out
 unfolding entryOf
-long-lines-alike s t h k n session st rs out = rw (formOf-long s h, formOf-long t k, entriesOf-long s h, entriesOf-long t k)
+long-lines-alike s t h k n session st rs out = rw (lineForm-long s h, lineForm-long t k, entriesOf-long s h, entriesOf-long t k)

@@ -10,7 +10,7 @@ use Rattle.rules.specs.Tables.{Tables}
 use Rattle.rules.specs.Answers.{numberOf}
 use Rattle.rules.specs.Demands.{Refusal}
 use Rattle.text_forms.specs.Forms.{ColumnOf}
-use Rattle.text_forms.specs.Judging.{formOf, entriesOf}
+use Rattle.text_forms.specs.Judging.{lineForm, entriesOf}
 use Rattle.text_forms.proofs.Theorems.{bad-column, column-found}
 use Rattle.line_session.specs.declared.Session.{Session}
 use Rattle.line_session.specs.Sessions.{Deed, refusedAtColumn, refusedBy, deedOf}
@@ -25,16 +25,16 @@ pub record OnlyAnswerLine (e : Entry) (session : Session) (st : Tables) (rs : Li
   pub report-stays : e .report ≡ rs
 
 -- A REFUSED LINE ONLY GETS ITS ANSWER LINE
-pub a-refused-line-only-gets-its-answer-line : (line : List ℕ) (n : ℕ) (session : Session) (st : Tables) (rs out : List ℕ) → Refusal (deedOf (formOf line) (entriesOf line) session st (length rs) .answer)
+pub a-refused-line-only-gets-its-answer-line : (line : List ℕ) (n : ℕ) (session : Session) (st : Tables) (rs out : List ℕ) → Refusal (deedOf (lineForm line) (entriesOf line) session st (length rs) .answer)
     → OnlyAnswerLine (entryOf line n session st rs out) session st rs
 unfolding entryOf
 a-refused-line-only-gets-its-answer-line line n session st rs out r = go (lentWell n session st (length rs) (length out))
   where
     d : Deed
-    d = deedOf (formOf line) (entriesOf line) session st (length rs)
+    d = deedOf (lineForm line) (entriesOf line) session st (length rs)
 
     only : OnlyAnswers d session st
-    only = a-refused-line-only-answers (formOf line) (entriesOf line) session st (length rs) r
+    only = a-refused-line-only-answers (lineForm line) (entriesOf line) session st (length rs) r
 
     go : (b : Bool) → OnlyAnswerLine (cond b (entered n rs out d) (notEntered session st rs out)) session st rs
     go true = record {
@@ -54,9 +54,9 @@ a-bad-line-is-told-its-column line {c} k n session st rs out w =
     rw (w, column-found line k, a-bad-line-only-gets-its-column c (entriesOf line) session st (length rs))
 
 -- NO OTHER LINE IS ANSWERED BY 14
-pub only-a-bad-line-is-answered-by-14 : (line : List ℕ) (session : Session) (st : Tables) (n : ℕ) → numberOf (deedOf (formOf line) (entriesOf line) session st n .answer) ≡ 14 → (c : ℕ) × ColumnOf line c
+pub only-a-bad-line-is-answered-by-14 : (line : List ℕ) (session : Session) (st : Tables) (n : ℕ) → numberOf (deedOf (lineForm line) (entriesOf line) session st n .answer) ≡ 14 → (c : ℕ) × ColumnOf line c
 only-a-bad-line-is-answered-by-14 line session st n e =
-    let (c, b) = only-a-bad-line-gets-14 (formOf line) (entriesOf line) session st n e in
+    let (c, b) = only-a-bad-line-gets-14 (lineForm line) (entriesOf line) session st n e in
     (c, bad-column line c b)
 
 -- 01, "How much each contract must say": any two outcomes that the contract of `enter` allows coincide

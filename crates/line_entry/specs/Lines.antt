@@ -11,12 +11,11 @@ use mathlib.Core.List.{List}
 use mathlib.Core.Bool.{Bool, cond, _&&_}
 use lib.Dec.{eqb, leb, ltb}
 use lib.ListN.{length, take, replicate}
-use Rattle.words.specs.Words.{lastLine}
+use Rattle.words.specs.Words.{lastLine, longestLine, longestAnswer, ofLines, lineReport}
 use Rattle.words.specs.Lists.{over}
 use Rattle.rules.specs.Tables.{Tables}
-use Rattle.text_forms.specs.Forms.{longestLine}
-use Rattle.text_forms.specs.Judging.{formOf, entriesOf}
-use Rattle.answer_text.specs.AnswerText.{answerText, longestAnswer}
+use Rattle.text_forms.specs.Judging.{lineForm, entriesOf}
+use Rattle.answer_text.specs.AnswerText.{answerText}
 use Rattle.line_session.specs.declared.Session.{Session}
 use Rattle.line_session.specs.Sessions.{inSession, Deed, deedOf}
 use Rattle.line_entry.specs.declared.Entered.{Entered}
@@ -24,7 +23,7 @@ use Rattle.line_entry.specs.declared.Entered.{Entered}
 -- "a line number (1 to 999999), a session value .., tables of exactly 64 and 256 words, a report of exactly 384 words and an answer line of at least 2,048 bytes"
 unfoldable pub lentWell : ℕ → Session → Tables → ℕ → ℕ → Bool
 lentWell n session st report out =
-    (leb 1 n && leb n lastLine) && inSession session && (eqb (length (st .tasks)) 64 && eqb (length (st .promises)) 256) && (eqb report 384 && leb longestAnswer out)
+    (leb 1 n && leb n lastLine) && inSession session && (eqb (length (st .tasks)) (ofLines .mostTasks) && eqb (length (st .promises)) (ofLines .mostPromises)) && (eqb report lineReport && leb longestAnswer out)
 
 -- ---- the entry
 
@@ -53,7 +52,7 @@ entered n rs out d = record {
 
 unfoldable pub entryOf : List ℕ → ℕ → Session → Tables → List ℕ → List ℕ → Entry
 entryOf line n session st rs out =
-    cond (lentWell n session st (length rs) (length out)) (entered n rs out (deedOf (formOf line) (entriesOf line) session st (length rs))) (notEntered session st rs out)
+    cond (lentWell n session st (length rs) (length out)) (entered n rs out (deedOf (lineForm line) (entriesOf line) session st (length rs))) (notEntered session st rs out)
 
 -- A line that a buffer x gathered, of which n bytes were counted. Of one that the buffer has no room for any line that is too long will do, for all of them have one
 -- answer: "passes over the rest of a longer line (one refusal 14)".

@@ -3,15 +3,16 @@ use answer_text::put_answer;
 use line_session::Session;
 use line_session::act;
 use line_session::in_session;
-use text_forms::Form;
+use text_forms::LineForm;
 use text_forms::judge;
 use words::Limit;
 ghost use mathlib.Core.Path.{_≡_};
 ghost use mathlib.Core.Bool.{true};
 ghost use Prim.Native.Nat.{_≤_};
 ghost use lib.ListN.{length};
+ghost use Rattle.words.specs.Words.{mostEntries};
 ghost use Rattle.rules.specs.Tables.{tables as tablesOf};
-ghost use Rattle.text_forms.specs.Judging.{formOf, entriesOf, Judged};
+ghost use Rattle.text_forms.specs.Judging.{lineForm, entriesOf, Judged};
 ghost use Rattle.line_session.specs.Sessions.{deedOf};
 ghost use Rattle.line_entry.specs.Lines.{lentWell, entered, heldLine, entryOf, replyOf, Enters};
 
@@ -41,11 +42,11 @@ fn lent_well(
 }
 
 // The form of the line that the buffer gathered, of which `have` bytes were counted.
-fn judge_held(line: &[u8], have: usize, list: &mut [u16]) -> Form
+fn judge_held(line: &[u8], have: usize, list: &mut [u16]) -> LineForm
     ensures { λ r. ⌜ Judged (heldLine (now (line .entry)) have) (now (list .entry)) (now (list .exit)) r ⌝ }
 {
     if line.len() < have {
-        return Form::Bad(Form::LONGEST as u16);
+        return LineForm::Bad(Limit::LINE as u16);
     }
     judge(&line[0..have], list)
 }
@@ -62,8 +63,8 @@ fn answer_line(
     report: &mut [u16],
     answer: &mut [u8],
 ) -> Entered
-    requires { ⌜ (lentWell number session (tablesOf (now tasks) (now promises)) (length (now report)) (length (now answer)) ≡ true) × (1024 ≤ length (now list)) ⌝ }
-    ensures { λ r. ⌜ Enters (entered number (now (report .entry)) (now (answer .entry)) (deedOf (formOf (heldLine (now (line .entry)) have)) (entriesOf (heldLine (now (line .entry)) have)) session (tablesOf (now (tasks .entry)) (now (promises .entry))) (length (now (report .entry))))) r (tablesOf (now (tasks .exit)) (now (promises .exit))) (now (report .exit)) (now (answer .exit)) ⌝ }
+    requires { ⌜ (lentWell number session (tablesOf (now tasks) (now promises)) (length (now report)) (length (now answer)) ≡ true) × (mostEntries ≤ length (now list)) ⌝ }
+    ensures { λ r. ⌜ Enters (entered number (now (report .entry)) (now (answer .entry)) (deedOf (lineForm (heldLine (now (line .entry)) have)) (entriesOf (heldLine (now (line .entry)) have)) session (tablesOf (now (tasks .entry)) (now (promises .entry))) (length (now (report .entry))))) r (tablesOf (now (tasks .exit)) (now (promises .exit))) (now (report .exit)) (now (answer .exit)) ⌝ }
 {
     let form = judge_held(line, have, list);
     let done = act(form, list, session, tasks, promises, report);
@@ -91,8 +92,7 @@ pub fn reply(
     ensures { λ r. ⌜ Enters (replyOf (now (line .entry)) have number session (tablesOf (now (tasks .entry)) (now (promises .entry))) (now (report .entry)) (now (answer .entry))) r (tablesOf (now (tasks .exit)) (now (promises .exit))) (now (report .exit)) (now (answer .exit)) ⌝ }
 {
     if lent_well(number, session, tasks, promises, report.len(), answer.len()) {
-        // a line of 2,048 bytes has at most 1,019 entries in its list
-        let mut list = [0; 1024];
+        let mut list = [0; Limit::ENTRIES];
         return answer_line(
             line,
             have,

@@ -18,7 +18,7 @@ use Rattle.text_buffers.proofs.BufferLaws.{over-is, fitting-none, fitting-room,
 use Rattle.line_gather.specs.declared.Got.{Got}
 use Rattle.line_gather.specs.declared.Got.the-variants as G
 use Rattle.line_gather.specs.declared.Numbering.{Numbering}
-use Rattle.line_gather.specs.Gather.{pieceOf, counted, gotOf, countIn, Gathered, Holds, isLast, numberAfter}
+use Rattle.line_gather.specs.Gather.{pieceOf, counted, gotOf, countGot, Gathered, Holds, isLast, numberAfter}
 
 -- ---- the line so far
 
@@ -62,11 +62,11 @@ holds-piece t o x y s n from h r g = record { bytes = go (decLt (length o) (leng
         g .bytes ∙ rw (d, fitting-full (pieceOf s from) [] refl, over-none, append-nil, take-all n x m) (h .bytes ∙ sym (ap (λ (u : List ℕ). over u o) (fitting-past t (pieceOf s from) o (omega arith))))
 
 -- and that count is the one that the answer holds
-pub gathered-counts : (o s x : List ℕ) (have from : ℕ) (r : Got) → Gathered o have s from x r → countIn r ≡ counted (length o) (have + length (pieceOf s from))
-unfolding gotOf countIn
-gathered-counts o s x have from r g = ap countIn (g .answer) ∙ go (ltb (endFrom lineEnd s from) (length s))
+pub gathered-counts : (o s x : List ℕ) (have from : ℕ) (r : Got) → Gathered o have s from x r → countGot r ≡ counted (length o) (have + length (pieceOf s from))
+unfolding gotOf countGot
+gathered-counts o s x have from r g = ap countGot (g .answer) ∙ go (ltb (endFrom lineEnd s from) (length s))
   where
-    go : (b : Bool) → countIn (cond b (G.Line (counted (length o) (have + length (pieceOf s from))) (endFrom lineEnd s from + 1)) (G.More (counted (length o) (have + length (pieceOf s from))))) ≡ counted (length o) (have + length (pieceOf s from))
+    go : (b : Bool) → countGot (cond b (G.Line (counted (length o) (have + length (pieceOf s from))) (endFrom lineEnd s from + 1)) (G.More (counted (length o) (have + length (pieceOf s from))))) ≡ counted (length o) (have + length (pieceOf s from))
     go true = refl
     go false = refl
 

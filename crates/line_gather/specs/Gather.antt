@@ -5,7 +5,7 @@
 --   pieceOf s from     the bytes of a block s from `from` on that belong to the line there
 --   counted L n        how many bytes of a line are there, up to one more than a buffer of L holds: that says that it is too long
 --   gotOf L have s at  what a block brings to a line of which `have` bytes are there
---   countIn r          the count in such an answer
+--   countGot r          the count in such an answer
 --   gatheredIn o have s at   what the buffer o holds then
 --   Gathered o have s at x r    the block s was gathered from `at` on into the buffer o: x is what it holds then, and r the answer
 --   Holds t o x n      the buffer, which held o, holds the line t so far: x is what it holds, and n its count
@@ -41,9 +41,9 @@ gotOf L have s from =
     (G.Line (counted L (have + length (pieceOf s from))) (endFrom lineEnd s from + 1))
     (G.More (counted L (have + length (pieceOf s from))))
 
-unfoldable pub countIn : Got → ℕ
-countIn (G.Line n next) = n
-countIn (G.More n) = n
+unfoldable pub countGot : Got → ℕ
+countGot (G.Line n next) = n
+countGot (G.More n) = n
 
 -- the bytes before `have` stay, the piece goes after them as far as there is room, and the bytes after it stay
 abbrev pub gatheredIn : List ℕ → ℕ → List ℕ → ℕ → List ℕ

@@ -11,13 +11,13 @@ use borrow.Author.Tests.{ne-eqb, lt-ltb, le-ltb, le-leb}
 use lib.Dec.{eqb}
 use lib.ListN.{length, getD, take, drop, replicate, length-replicate, length-drop, drop-of-length-le}
 use lib.Seq.{take-all, take-append-seam, drop-drop, drop-cons}
+use Rattle.words.specs.Words.{longestLine, longestAnswer}
 use Rattle.words.specs.Lists.{over}
 use Rattle.text_buffers.specs.Buffers.{fitting}
 use Rattle.text_buffers.proofs.BufferLaws.{over-is, fitting-room}
 use Rattle.text_fields.specs.Fields.{lineEnd, runTo, endFrom}
-use Rattle.text_forms.specs.Forms.{longestLine}
-use Rattle.text_forms.specs.Judging.{formOf, entriesOf}
-use Rattle.answer_text.specs.AnswerText.{answerText, longestAnswer}
+use Rattle.text_forms.specs.Judging.{lineForm, entriesOf}
+use Rattle.answer_text.specs.AnswerText.{answerText}
 use Rattle.line_gather.specs.Gather.{pieceOf, counted, gatheredIn, gotOf, Holds, isLast, numberAfter}
 use Rattle.line_gather.specs.declared.Got.the-variants as G
 use Rattle.line_gather.specs.declared.Numbering.{Numbering}
@@ -30,7 +30,7 @@ use Rattle.line_entry.specs.Lines.{lentWell, entered, notEntered, Entry, entryO
 use Rattle.line_entry.proofs.LineLaws.{heldLine-within, heldLine-long, long-lines-alike}
 use Rattle.line_serving.specs.declared.Served.{Served}
 use Rattle.line_serving.specs.Serving.{Serves, fullText, Turn, turnOf}
-use Rattle.line_serving.specs.Input.{Desk, opening, begunWith, entryAt, answered, full, fedIn, fed, feed, Buffered, Takes}
+use Rattle.line_serving.specs.Input.{Desk, opening, begunWith, entryAt, answered, full, fedIn, fed, feed, Buffered, Advances}
 use Rattle.line_serving.proofs.ServingLaws.{turn-full, turn-more, turn-line}
 
 -- ---- a line that was gathered
@@ -63,7 +63,7 @@ module _ (line : List ℕ) (n : ℕ) (session : Session) (st : Tables) (rs out o
   entries-alike h k = rw (lent-alike n session st (length rs) (length out) (length out₂) h k) (go (lentWell n session st (length rs) (length out₂)))
     where
       d : Deed
-      d = deedOf (formOf line) (entriesOf line) session st (length rs)
+      d = deedOf (lineForm line) (entriesOf line) session st (length rs)
 
       text : (t x y : List ℕ) → take (length t) (over t x) ≡ take (length t) (over t y)
       text t x y = rw (over-is t x, over-is t y) (take-append-seam t (drop (length t) x) ∙ sym (take-append-seam t (drop (length t) y)))
@@ -161,8 +161,8 @@ module _ (d : Desk) (b : List ℕ) (from : ℕ) (x : List ℕ) (have : ℕ) (out
   T = turnOf b from x have (d .lines) (d .session) (d .after) (d .report) out
 
   module _ (r : longestAnswer ≤ length out) (h : from < length b) (g : d .going ≡ true) (w : Buffered d x have) where
-    takes-full : numberAfter (d .lines) ≡ N.Full → Takes d b from T (full d)
-    takes-full e = subst (λ (t : Turn). Takes d b from t (full d)) (sym (turn-full b from x have (d .lines) (d .session) (d .after) (d .report) out e)) (record {
+    takes-full : numberAfter (d .lines) ≡ N.Full → Advances d b from T (full d)
+    takes-full e = subst (λ (t : Turn). Advances d b from t (full d)) (sym (turn-full b from x have (d .lines) (d .session) (d .after) (d .report) out e)) (record {
       bytes = bytes;
       said = ap (λ (t : List ℕ). d .said ++ t) (sym text);
       buffer = record { first = w .first; room = w .room; held = w .held };
@@ -192,9 +192,9 @@ module _ (d : Desk) (b : List ℕ) (from : ℕ) (x : List ℕ) (have : ℕ) (out
       held-on : Holds (d .begun ++ pieceOf b from) (w .first) (gatheredIn x have b from) (counted (length x) (have + length (pieceOf b from)))
       held-on = holds-piece (d .begun) (w .first) x (gatheredIn x have b from) b have from (w .held) (gotOf (length x) have b from) (record { answer = refl; bytes = refl })
 
-      takes-more : length b ≤ endFrom lineEnd b from → Takes d b from T (begunWith d (pieceOf b from))
+      takes-more : length b ≤ endFrom lineEnd b from → Advances d b from T (begunWith d (pieceOf b from))
       unfolding endFrom pieceOf
-      takes-more l = subst (λ (t : Turn). Takes d b from t (begunWith d (pieceOf b from))) (sym (turn-more b from x have (d .lines) (d .session) (d .after) (d .report) out n e (counted (length x) (have + length (pieceOf b from))) got)) (record {
+      takes-more l = subst (λ (t : Turn). Advances d b from t (begunWith d (pieceOf b from))) (sym (turn-more b from x have (d .lines) (d .session) (d .after) (d .report) out n e (counted (length x) (have + length (pieceOf b from))) got)) (record {
         bytes = more-fed n (drop from b) d g e all ∙ ap (λ (s : List ℕ). begunWith d s) (sym whole) ∙ sym (feed-none (begunWith d (pieceOf b from))) ∙ ap (λ (s : List ℕ). feed (begunWith d (pieceOf b from)) s) (sym past);
         said = sym (append-nil (d .said));
         buffer = record { first = w .first; room = w .room; held = held-on };
@@ -217,10 +217,10 @@ module _ (d : Desk) (b : List ℕ) (from : ℕ) (x : List ℕ) (have : ℕ) (out
           whole : pieceOf b from ≡ drop from b
           whole = take-all (runTo lineEnd (drop from b)) (drop from b) all
 
-      takes-line : endFrom lineEnd b from < length b → Takes d b from T (answered (begunWith d (pieceOf b from)) n)
+      takes-line : endFrom lineEnd b from < length b → Advances d b from T (answered (begunWith d (pieceOf b from)) n)
       unfolding endFrom pieceOf
       takes-line l =
-          subst (λ (t : Turn). Takes d b from t (answered (begunWith d (pieceOf b from)) n))
+          subst (λ (t : Turn). Advances d b from t (answered (begunWith d (pieceOf b from)) n))
           (sym (turn-line b from x have (d .lines) (d .session) (d .after) (d .report) out n e (counted (length x) (have + length (pieceOf b from))) (endFrom lineEnd b from + 1) (got-line (length x) have b from l)))
           (rw reply (record {
             bytes = line-fed n (drop from b) d g e (omega (arith, l, length-drop from b)) ∙ ap (λ (s : List ℕ). feed (answered (begunWith d (pieceOf b from)) n) s) rest;
@@ -245,10 +245,10 @@ module _ (d : Desk) (b : List ℕ) (from : ℕ) (x : List ℕ) (have : ℕ) (out
               rw drop-drop (ap (λ (j : ℕ). drop j b) i)
 
     -- WHAT `serve` DOES COMES TO THE SAME AS THE BYTES ONE BY ONE
-    pub serve-takes : (d′ : Desk) × Takes d b from T d′
+    pub serve-takes : (d′ : Desk) × Advances d b from T d′
     serve-takes = go (numberAfter (d .lines)) refl (decLt (endFrom lineEnd b from) (length b))
       where
-        go : (m : Numbering) → numberAfter (d .lines) ≡ m → Dec (endFrom lineEnd b from < length b) → (d′ : Desk) × Takes d b from T d′
+        go : (m : Numbering) → numberAfter (d .lines) ≡ m → Dec (endFrom lineEnd b from < length b) → (d′ : Desk) × Advances d b from T d′
         go N.Full e l = (full d, takes-full e)
         go (N.Line n) e (yes l) = (answered (begunWith d (pieceOf b from)) n, takes-line n e l)
         go (N.Line n) e (no l) = (begunWith d (pieceOf b from), takes-more n e (omega arith))

@@ -9,7 +9,7 @@
 --   ended d            after the input's end
 --   printed s          what is printed for the input s
 --   Buffered d x k     the line buffer x holds the line that has begun, of which k bytes are counted
---   Takes d b at t d′  the turn t takes the desk d to d′
+--   Advances d b at t d′  the turn t takes the desk d to d′
 -- A desk has no line buffer: a line is gathered whole there, however long it is.
 -- Assumes nothing.
 use Prim.Native.Nat.{ℕ, _+_}
@@ -18,9 +18,8 @@ use mathlib.Core.List.{List, [], _∷_, _++_}
 use mathlib.Core.Bool.{Bool, true, false, cond}
 use lib.Dec.{eqb}
 use lib.ListN.{length, take, drop, replicate}
+use Rattle.words.specs.Words.{longestLine, longestAnswer, ofLines, lineReport}
 use Rattle.rules.specs.Tables.{Tables, tables}
-use Rattle.text_forms.specs.Forms.{longestLine}
-use Rattle.answer_text.specs.AnswerText.{longestAnswer}
 use Rattle.text_fields.specs.Fields.{lineEnd}
 use Rattle.line_gather.specs.Gather.{isLast, numberAfter, Holds}
 use Rattle.line_gather.specs.declared.Numbering.{Numbering}
@@ -40,8 +39,12 @@ pub record Desk : Type 0 where
   pub going : Bool
   pub said : List ℕ
 
+-- the tables that the program lends hold no word before the first line
+abbrev pub zeroTables : Tables
+zeroTables = tables (replicate (ofLines .mostTasks) 0) (replicate (ofLines .mostPromises) 0)
+
 abbrev pub opening : Desk
-opening = record { lines = 0; session = Unopened; after = tables (replicate 64 0) (replicate 256 0); report = replicate 384 0; begun = []; going = true; said = [] }
+opening = record { lines = 0; session = Unopened; after = zeroTables; report = replicate lineReport 0; begun = []; going = true; said = [] }
 
 -- the line that has begun has these bytes more
 abbrev pub begunWith : Desk → List ℕ → Desk
@@ -108,7 +111,7 @@ pub record Buffered (d : Desk) (x : List ℕ) (have : ℕ) : Type 0 where
   pub held : Holds (d .begun) first x have
 
 -- the turn t takes the bytes of the block b from `from` on up to its own end, prints what it wrote, and leaves the desk d′
-pub record Takes (d : Desk) (b : List ℕ) (from : ℕ) (t : Turn) (d′ : Desk) : Type 0 where
+pub record Advances (d : Desk) (b : List ℕ) (from : ℕ) (t : Turn) (d′ : Desk) : Type 0 where
   pub bytes : feed d (drop from b) ≡ feed d′ (drop (t .next) b)
   pub said : d′ .said ≡ d .said ++ take (t .bytes) (t .out)
   pub buffer : Buffered d′ (t .line) (t .have)

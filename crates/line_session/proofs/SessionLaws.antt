@@ -9,21 +9,21 @@ use lib.Dec.{eqb}
 use borrow.Author.Tests.{eq-eqb, ne-eqb, eqb-false}
 use lib.ListN.{length}
 use lib.Seq.{length-take-le}
-use Rattle.words.specs.Words.{Form, small, sizesInBounds}
+use Rattle.words.specs.Words.{Form, ofLines, sizesInBounds}
 use Rattle.words.specs.Lists.{over}
 use Rattle.words.proofs.ListLaws.{over-none}
 use Rattle.words.proofs.WordLaws.{sizesInBounds-true}
+use Rattle.words.proofs.BoolLaws.{not-is-false}
 use Rattle.rules.specs.Tables.{Tables, partOf, putBack, fresh}
-use Rattle.rules.specs.Sessions.{freshRefusal, freshened, Freshens}
-use Rattle.rules.specs.Refusals.{first}
+use Rattle.rules.specs.Refusals.{freshRefusal, first}
+use Rattle.rules.specs.Contracts.{freshened, Freshens, Gives}
 use Rattle.rules.specs.Steps.{Outcome}
-use Rattle.rules.specs.Contracts.{Gives}
 use Rattle.rules.specs.declared.Answer.{Answer}
 use Rattle.rules.specs.declared.Answer.the-variants.{Opened, Refused}
-use Rattle.rules.proofs.RefusalLaws.{first-past, not-is-false}
+use Rattle.rules.proofs.RefusalLaws.{first-past}
 use Rattle.step_kinds.specs.declared.Kind.{Kind}
-use Rattle.text_forms.specs.declared.Form.{Form as LineForm}
-use Rattle.text_forms.specs.declared.Form.the-variants as F
+use Rattle.text_forms.specs.declared.LineForm.{LineForm}
+use Rattle.text_forms.specs.declared.LineForm.the-variants as F
 use Rattle.line_session.specs.declared.Session.{Session}
 use Rattle.line_session.specs.declared.Session.the-variants.{Unopened, Open}
 use Rattle.line_session.specs.declared.Done.{Done}
@@ -40,13 +40,13 @@ unfolding freshRefusal
 refusal-number F T P e = not-is-false (sizesInBounds F T P) (first-past 1 (not (sizesInBounds F T P)) [] (eqb-false 1 0 refl) e .0)
 
 -- where an open is not refused, T and P are within their bounds
-pub freshRefusal-none : (T P : ℕ) → freshRefusal small T P ≡ 0 → (T ≤ 64) × (P ≤ 256)
-freshRefusal-none T P e = let s = sizesInBounds-true small T P (refusal-number small T P e) in (s .tasks, s .promises)
+pub freshRefusal-none : (T P : ℕ) → freshRefusal ofLines T P ≡ 0 → (T ≤ ofLines .mostTasks) × (P ≤ ofLines .mostPromises)
+freshRefusal-none T P e = let s = sizesInBounds-true ofLines T P (refusal-number ofLines T P e) in (s .tasks, s .promises)
 
 -- its one refusal is 1
-pub freshRefusal-most : (T P : ℕ) → freshRefusal small T P ≤ 1
+pub freshRefusal-most : (T P : ℕ) → freshRefusal ofLines T P ≤ 1
 unfolding freshRefusal first
-freshRefusal-most T P = go (sizesInBounds small T P)
+freshRefusal-most T P = go (sizesInBounds ofLines T P)
   where
     go : (b : Bool) → cond (not b) 1 0 ≤ 1
     go true = omega arith
@@ -55,29 +55,29 @@ freshRefusal-most T P = go (sizesInBounds small T P)
 pub does-refused : {d : Deed} (s : Tables) (session : Session) (a : Answer) {x : Done} → d ≡ refusedBy a session s → x .answer ≡ a → x .session ≡ session → Does d [] x s []
 does-refused s session a e q b = rw e (record { answer = q; session = b; after = refl; report = sym (over-none []) })
 
-pub openDeed-refused : (s : Tables) (T P r : ℕ) → r ≡ freshRefusal small T P → r ≢ 0 → openDeed s T P ≡ refusedBy (Refused r) Unopened s
+pub openDeed-refused : (s : Tables) (T P r : ℕ) → r ≡ freshRefusal ofLines T P → r ≢ 0 → openDeed s T P ≡ refusedBy (Refused r) Unopened s
 unfolding openDeed
 openDeed-refused s T P r e n = rw (← e, ne-eqb r 0 n)
 
 -- fresh tables of the parts that were lent are fresh tables of that size
-freshened-part : (T P : ℕ) (s : Tables) → T ≤ length (s .tasks) → P ≤ length (s .promises) → freshRefusal small T P ≡ 0
-    → freshened small (partOf T P s) ≡ fresh T P
+freshened-part : (T P : ℕ) (s : Tables) → T ≤ length (s .tasks) → P ≤ length (s .promises) → freshRefusal ofLines T P ≡ 0
+    → freshened ofLines (partOf T P s) ≡ fresh T P
 unfolding freshened
-freshened-part T P s h k e = rw (length-take-le T (s .tasks) h, length-take-le P (s .promises) k, eq-eqb (freshRefusal small T P) 0 e)
+freshened-part T P s h k e = rw (length-take-le T (s .tasks) h, length-take-le P (s .promises) k, eq-eqb (freshRefusal ofLines T P) 0 e)
 
-pub does-opened : (T P : ℕ) (s : Tables) {r : ℕ} {s′ : Tables} {x : Done} → T ≤ length (s .tasks) → P ≤ length (s .promises) → freshRefusal small T P ≡ 0
-    → Freshens small (partOf T P s) r s′ → x .answer ≡ Opened → x .session ≡ Open T P → Does (openDeed s T P) [] x (putBack T P s s′) []
+pub does-opened : (T P : ℕ) (s : Tables) {r : ℕ} {s′ : Tables} {x : Done} → T ≤ length (s .tasks) → P ≤ length (s .promises) → freshRefusal ofLines T P ≡ 0
+    → Freshens ofLines (partOf T P s) r s′ → x .answer ≡ Opened → x .session ≡ Open T P → Does (openDeed s T P) [] x (putBack T P s s′) []
 unfolding openDeed
 does-opened T P s h k e f a b =
-    rw (eq-eqb (freshRefusal small T P) 0 e)
+    rw (eq-eqb (freshRefusal ofLines T P) 0 e)
     (record { answer = a; session = b; after = ap (putBack T P s) (f .after ∙ freshened-part T P s h k e); report = sym (over-none []) })
 
 -- a line before a session is opened writes no report
 unopened-words : (f : LineForm) (s : Tables) → unopenedDeed f s .words ≡ []
 unfolding unopenedDeed openDeed
-unopened-words (F.Open T P) s = go (eqb (freshRefusal small T P) 0)
+unopened-words (F.Open T P) s = go (eqb (freshRefusal ofLines T P) 0)
   where
-    go : (b : Bool) → cond b (opened T P s) (refusedBy (Refused (freshRefusal small T P)) Unopened s) .words ≡ []
+    go : (b : Bool) → cond b (opened T P s) (refusedBy (Refused (freshRefusal ofLines T P)) Unopened s) .words ≡ []
     go true = refl
     go false = refl
 unopened-words (F.Step k t p n) s = refl
@@ -95,9 +95,9 @@ does-unopened f vs s rs n d = record {
 
 -- ---- in an open session
 
-pub inSession-open : (T P : ℕ) → inSession (Open T P) ≡ true → (T ≤ 64) × (P ≤ 256)
+pub inSession-open : (T P : ℕ) → inSession (Open T P) ≡ true → (T ≤ ofLines .mostTasks) × (P ≤ ofLines .mostPromises)
 unfolding inSession
-inSession-open T P e = let s = sizesInBounds-true small T P e in (s .tasks, s .promises)
+inSession-open T P e = let s = sizesInBounds-true ofLines T P e in (s .tasks, s .promises)
 
 pub does-open : (f : LineForm) (vs : List ℕ) (s : Tables) (rs : List ℕ) (n T P : ℕ) {x : Done} {a : Answer} {s′ : Tables} {rs′ : List ℕ}
     → Gives (partOutcome f vs n T P s) rs a s′ rs′ → x .answer ≡ a → x .session ≡ Open T P → Does (deedOf f vs (Open T P) s n) rs x s′ rs′

@@ -6,21 +6,21 @@ use mathlib.Core.Bool.{Bool, true, false, cond, not}
 use native.Mathlib.Omega.{arith}
 use lib.Dec.{eqb}
 use borrow.Author.Tests.{eq-eqb}
-use Rattle.words.specs.Words.{small}
+use Rattle.words.specs.Words.{ofLines}
 use Rattle.words.proofs.BoolLaws.{true-is-not-false}
-use Rattle.words.proofs.ListLaws.{allPass, in-passes}
 use Rattle.rules.specs.Tables.{Tables, partOf, putBack}
 use Rattle.rules.specs.Answers.{laid, numberOf}
-use Rattle.rules.specs.Sessions.{freshRefusal}
-use Rattle.rules.specs.Steps.{Step, step-new, step-set, step-get, step-async, step-end, Outcome, outcome, step}
-use Rattle.rules.specs.Demands.{paperNumbers, Refusal}
+use Rattle.rules.specs.Refusals.{freshRefusal}
+use Rattle.rules.specs.Steps.{Step, Outcome, outcome, step}
+use Rattle.rules.specs.Demands.{Refusal}
 use Rattle.rules.specs.declared.Answer.{Answer}
 use Rattle.rules.specs.declared.Answer.the-variants.{Opened, Refused}
 use Rattle.rules.proofs.BoundsLaws.{putBack-same}
-use Rattle.rules.proofs.Promises.{refused-by-a-number-of-its-own, a-number-below-100-refuses, a-refusal-changes-nothing}
+use Rattle.rules.proofs.Order.{refusal-passes}
+use Rattle.rules.proofs.Promises.{a-number-below-100-refuses, a-refusal-changes-nothing}
 use Rattle.steps.specs.Named.{stepBy}
-use Rattle.text_forms.specs.declared.Form.{Form}
-use Rattle.text_forms.specs.declared.Form.the-variants as F
+use Rattle.text_forms.specs.declared.LineForm.{LineForm}
+use Rattle.text_forms.specs.declared.LineForm.the-variants as F
 use Rattle.line_session.specs.declared.Session.{Session}
 use Rattle.line_session.specs.declared.Session.the-variants.{Unopened, Open}
 use Rattle.line_session.specs.declared.Done.{Done}
@@ -41,13 +41,13 @@ stepped-same : (T P : ℕ) (s : Tables) (o : Outcome) → o .after ≡ partOf T 
 stepped-same T P s o e w = record { session-stays = refl; tables-stay = ap (putBack T P s) e ∙ putBack-same T P s; no-words = w }
 
 -- A REFUSED LINE ONLY GETS ITS ANSWER LINE: it changes no session value, no table and no report
-pub a-refused-line-only-answers : (f : Form) (vs : List ℕ) (session : Session) (s : Tables) (n : ℕ) → Refusal (deedOf f vs session s n .answer) → OnlyAnswers (deedOf f vs session s n) session s
+pub a-refused-line-only-answers : (f : LineForm) (vs : List ℕ) (session : Session) (s : Tables) (n : ℕ) → Refusal (deedOf f vs session s n .answer) → OnlyAnswers (deedOf f vs session s n) session s
 unfolding deedOf unopenedDeed openDeed openOutcome
-a-refused-line-only-answers (F.Open T P) vs Unopened s n r = go (eqb (freshRefusal small T P) 0) r
+a-refused-line-only-answers (F.Open T P) vs Unopened s n r = go (eqb (freshRefusal ofLines T P) 0) r
   where
-    go : (b : Bool) → let d = cond b (opened T P s) (refusedBy (Refused (freshRefusal small T P)) Unopened s) in Refusal (d .answer) → OnlyAnswers d Unopened s
+    go : (b : Bool) → let d = cond b (opened T P s) (refusedBy (Refused (freshRefusal ofLines T P)) Unopened s) in Refusal (d .answer) → OnlyAnswers d Unopened s
     go true r = elim r [ ]
-    go false r = refused-unopened (Refused (freshRefusal small T P)) s
+    go false r = refused-unopened (Refused (freshRefusal ofLines T P)) s
 a-refused-line-only-answers (F.Step k t p c) vs Unopened s n r = refused-unopened (Refused 15) s
 a-refused-line-only-answers (F.Bad c) vs Unopened s n r = refused-unopened (refusedAtColumn c) s
 a-refused-line-only-answers f vs (Open T P) s n r = in-session f r
@@ -55,20 +55,20 @@ a-refused-line-only-answers f vs (Open T P) s n r = in-session f r
     part : Tables
     part = partOf T P s
 
-    taken : (x : Step) → Refusal (step small n part x .answer) → OnlyAnswers (stepped T P (inPart T P s (step small n part x))) (Open T P) s
-    taken x r = let u = a-refusal-changes-nothing small n part x r in stepped-same T P s (step small n part x) (u .0) (u .1)
+    taken : (x : Step) → Refusal (step ofLines n part x .answer) → OnlyAnswers (stepped T P (inPart T P s (step ofLines n part x))) (Open T P) s
+    taken x r = let u = a-refusal-changes-nothing ofLines n part x r in stepped-same T P s (step ofLines n part x) (u .0) (u .1)
 
-    in-session : (f : Form) → Refusal (openOutcome f vs n part .answer) → OnlyAnswers (stepped T P (inPart T P s (openOutcome f vs n part))) (Open T P) s
+    in-session : (f : LineForm) → Refusal (openOutcome f vs n part .answer) → OnlyAnswers (stepped T P (inPart T P s (openOutcome f vs n part))) (Open T P) s
     in-session (F.Open T′ P′) r = stepped-same T P s (outcome (Refused 15) part []) refl refl
     in-session (F.Step k t p c) r = taken (stepBy k t p vs) r
     in-session (F.Bad c) r = stepped-same T P s (outcome (refusedAtColumn c) part []) refl refl
 
 -- no line but an accepted open changes the session value
-pub only-open-opens : (f : Form) (vs : List ℕ) (session : Session) (s : Tables) (n : ℕ) → (deedOf f vs session s n .answer ≡ Opened → ⊥) → deedOf f vs session s n .session ≡ session
+pub only-open-opens : (f : LineForm) (vs : List ℕ) (session : Session) (s : Tables) (n : ℕ) → (deedOf f vs session s n .answer ≡ Opened → ⊥) → deedOf f vs session s n .session ≡ session
 unfolding deedOf unopenedDeed openDeed
-only-open-opens (F.Open T P) vs Unopened s n h = go (eqb (freshRefusal small T P) 0) h
+only-open-opens (F.Open T P) vs Unopened s n h = go (eqb (freshRefusal ofLines T P) 0) h
   where
-    go : (b : Bool) → let d = cond b (opened T P s) (refusedBy (Refused (freshRefusal small T P)) Unopened s) in (d .answer ≡ Opened → ⊥) → d .session ≡ Unopened
+    go : (b : Bool) → let d = cond b (opened T P s) (refusedBy (Refused (freshRefusal ofLines T P)) Unopened s) in (d .answer ≡ Opened → ⊥) → d .session ≡ Unopened
     go true h = absurd (h refl)
     go false h = refl
 only-open-opens (F.Step k t p c) vs Unopened s n h = refl
@@ -83,25 +83,18 @@ a-bad-line-only-gets-its-column column vs (Open T P) s n = ap (refusedBy (refuse
 
 -- ---- 14 is the line's own number
 
-no-steps-own : (x : Step) → allPass (λ r. not (eqb r 14)) (paperNumbers x) ≡ true
-no-steps-own (step-new t p) = refl
-no-steps-own (step-set t p) = refl
-no-steps-own (step-get t p) = refl
-no-steps-own (step-async t c list) = refl
-no-steps-own (step-end t) = refl
-
-step-not-14 : {A : Type 0} (n : ℕ) (s : Tables) (x : Step) → numberOf (step small n s x .answer) ≡ 14 → A
+step-not-14 : {A : Type 0} (n : ℕ) (s : Tables) (x : Step) → numberOf (step ofLines n s x .answer) ≡ 14 → A
 step-not-14 n s x e =
-    let i = refused-by-a-number-of-its-own small n s x (a-number-below-100-refuses small n s x (omega arith)) in
-    let q = in-passes (λ r. not (eqb r 14)) (no-steps-own x) i in
-    absurd (true-is-not-false (sym q ∙ ap not (eq-eqb (numberOf (step small n s x .answer)) 14 e)))
+    let w : Refusal (step ofLines n s x .answer) = a-number-below-100-refuses ofLines n s x (omega arith) in
+    let q = refusal-passes (λ r. not (eqb r 14)) refl ofLines n s x w in
+    true-is-not-false (sym q ∙ ap not (eq-eqb (numberOf (step ofLines n s x .answer)) 14 e))
 
 -- ONLY A LINE THAT GOES BAD IS REFUSED BY 14
-pub only-a-bad-line-gets-14 : (f : Form) (vs : List ℕ) (session : Session) (s : Tables) (n : ℕ) → numberOf (deedOf f vs session s n .answer) ≡ 14 → (column : ℕ) × (f ≡ F.Bad column)
+pub only-a-bad-line-gets-14 : (f : LineForm) (vs : List ℕ) (session : Session) (s : Tables) (n : ℕ) → numberOf (deedOf f vs session s n .answer) ≡ 14 → (column : ℕ) × (f ≡ F.Bad column)
 unfolding deedOf unopenedDeed openDeed openOutcome laid
-only-a-bad-line-gets-14 (F.Open T P) vs Unopened s n e = go (eqb (freshRefusal small T P) 0) e
+only-a-bad-line-gets-14 (F.Open T P) vs Unopened s n e = go (eqb (freshRefusal ofLines T P) 0) e
   where
-    go : (b : Bool) → numberOf (cond b (opened T P s) (refusedBy (Refused (freshRefusal small T P)) Unopened s) .answer) ≡ 14 → (column : ℕ) × (F.Open T P ≡ F.Bad column)
+    go : (b : Bool) → numberOf (cond b (opened T P s) (refusedBy (Refused (freshRefusal ofLines T P)) Unopened s) .answer) ≡ 14 → (column : ℕ) × (F.Open T P ≡ F.Bad column)
     go true e = absurd (omega arith)
     go false e = absurd (omega (arith, freshRefusal-most T P))
 only-a-bad-line-gets-14 (F.Step k t p c) vs Unopened s n e = absurd (omega arith)

@@ -14,16 +14,16 @@ use mathlib.Core.Path.{_≡_}
 use mathlib.Core.List.{List, []}
 use mathlib.Core.Bool.{Bool, true, cond}
 use lib.Dec.{eqb}
-use Rattle.words.specs.Words.{small, sizesInBounds}
+use Rattle.words.specs.Words.{ofLines, sizesInBounds}
 use Rattle.words.specs.Lists.{over}
 use Rattle.rules.specs.Tables.{Tables, partOf, putBack, fresh}
-use Rattle.rules.specs.Sessions.{freshRefusal}
+use Rattle.rules.specs.Refusals.{freshRefusal}
 use Rattle.rules.specs.Steps.{Outcome, outcome, step}
 use Rattle.steps.specs.Named.{stepBy}
 use Rattle.rules.specs.declared.Answer.{Answer}
 use Rattle.rules.specs.declared.Answer.the-variants.{Opened, Refused, RefusedAt}
-use Rattle.text_forms.specs.declared.Form.{Form}
-use Rattle.text_forms.specs.declared.Form.the-variants as F
+use Rattle.text_forms.specs.declared.LineForm.{LineForm}
+use Rattle.text_forms.specs.declared.LineForm.the-variants as F
 use Rattle.line_session.specs.declared.Session.{Session}
 use Rattle.line_session.specs.declared.Session.the-variants.{Unopened, Open}
 use Rattle.line_session.specs.declared.Done.{Done}
@@ -31,7 +31,7 @@ use Rattle.line_session.specs.declared.Done.{Done}
 -- "a session value (unopened, or a T of 1 to 64 and a P of 0 to 256)"
 unfoldable pub inSession : Session → Bool
 inSession Unopened = true
-inSession (Open T P) = sizesInBounds small T P
+inSession (Open T P) = sizesInBounds ofLines T P
 
 -- ---- what a line may do
 
@@ -64,9 +64,9 @@ stepped T P o = record { answer = o .answer; session = Open T P; after = o .afte
 
 -- "Refusal 15: well formed but out of place, a step before open"; "a refused open (T not 1 to 64, P above 256: refusal 1) .. leaves the session unopened"
 unfoldable pub openDeed : Tables → ℕ → ℕ → Deed
-openDeed s T P = cond (eqb (freshRefusal small T P) 0) (opened T P s) (refusedBy (Refused (freshRefusal small T P)) Unopened s)
+openDeed s T P = cond (eqb (freshRefusal ofLines T P) 0) (opened T P s) (refusedBy (Refused (freshRefusal ofLines T P)) Unopened s)
 
-unfoldable pub unopenedDeed : Form → Tables → Deed
+unfoldable pub unopenedDeed : LineForm → Tables → Deed
 unopenedDeed (F.Open T P) s = openDeed s T P
 unopenedDeed (F.Step k t p n) s = refusedBy (Refused 15) Unopened s
 unopenedDeed (F.Bad column) s = refusedBy (refusedAtColumn column) Unopened s
@@ -74,19 +74,19 @@ unopenedDeed (F.Bad column) s = refusedBy (refusedAtColumn column) Unopened s
 -- ---- in an open session
 
 -- n is the report's length, vs are the entries of a step's list. "or a second open": 15. "14 comes before 15, both before the step's own."
-unfoldable pub openOutcome : Form → List ℕ → ℕ → Tables → Outcome
+unfoldable pub openOutcome : LineForm → List ℕ → ℕ → Tables → Outcome
 openOutcome (F.Open T P) vs n s = outcome (Refused 15) s []
-openOutcome (F.Step k t p c) vs n s = step small n s (stepBy k t p vs)
+openOutcome (F.Step k t p c) vs n s = step ofLines n s (stepBy k t p vs)
 openOutcome (F.Bad column) vs n s = outcome (refusedAtColumn column) s []
 
 -- the same on the first T and P words of the tables s
-abbrev pub partOutcome : Form → List ℕ → ℕ → ℕ → ℕ → Tables → Outcome
+abbrev pub partOutcome : LineForm → List ℕ → ℕ → ℕ → ℕ → Tables → Outcome
 partOutcome f vs n T P s = inPart T P s (openOutcome f vs n (partOf T P s))
 
 -- ---- what a line does
 
 -- n is the report's length
-unfoldable pub deedOf : Form → List ℕ → Session → Tables → ℕ → Deed
+unfoldable pub deedOf : LineForm → List ℕ → Session → Tables → ℕ → Deed
 deedOf f vs Unopened s n = unopenedDeed f s
 deedOf f vs (Open T P) s n = stepped T P (partOutcome f vs n T P s)
 

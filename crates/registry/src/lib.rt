@@ -2,18 +2,18 @@
 // answer's number and writes four words to `answer`: the number, then the answer's values, 0 where it has none. A batch takes its records as five words each, and
 // returns the refusal of the call, or 0.
 use answer_words::tell;
-use step_async::step_async;
-use step_end::step_end;
-use step_get::step_get;
-use step_new::step_new;
-use step_set::step_set;
+use steps::step_async;
+use steps::step_end;
+use steps::step_get;
+use steps::step_new;
+use steps::step_set;
 ghost use mathlib.Core.Path.{_≡_};
 ghost use lib.ListN.{length};
 ghost use Rattle.words.specs.Words.{small};
 ghost use Rattle.rules.specs.Tables.{tables as tablesOf};
 ghost use Rattle.rules.specs.Sound.{soundTest};
 ghost use Rattle.rules.specs.Steps.{step, step-new, step-set, step-get, step-async, step-end};
-ghost use Rattle.rules.specs.Sessions.{Freshens};
+ghost use Rattle.rules.specs.Contracts.{Freshens};
 ghost use Rattle.batch_words.specs.Flat.{flatly, Flats};
 ghost use Rattle.registry.specs.Exports.{exported, Exports};
 

@@ -18,7 +18,7 @@ use Rattle.rules.specs.Sound.{Live, TaskWord, PromiseWord, unused, ready
 use Rattle.rules.specs.Sound as sound
 use Rattle.rules.specs.Answers.{byNumber}
 use Rattle.rules.specs.Refusals.{first, entryRefusal, firstBad, newRows, getRows, ownRows, childRows}
-use Rattle.rules.specs.Steps.{Step, step-new, step-set, step-get, step-async, step-end, actor, Outcome, outcome, withMade, withSet, withWait, withStarted, withEnded, given, awaits, back, free, walk, followed, got, guarded, rows, effect, raw}
+use Rattle.rules.specs.Steps.{Step, step-new, step-set, step-get, step-async, step-end, actor, Outcome, outcome, withMade, withSet, withWait, withStarted, withEnded, given, awaits, back, free, walkFrom, followed, got, guarded, rows, effect, raw}
 use Rattle.rules.specs.declared.Answer.the-variants.{Value, Blamed, Waits, Cycle}
 use Rattle.rules.proofs.BoundsLaws.{AsLong, as-long, long-tasks, long-promises, long-words}
 use Rattle.rules.proofs.GuardLaws.{guarded-is, got-cases, started-by}
@@ -118,7 +118,7 @@ module _ (F : Form) (s : Tables) (fits : firstOwned + length (s .tasks) ≤ F .b
       let i : promiseAt s p - F .base ≡ b = omega arith in
       rw (ne-eqb (promiseAt s p) setWord (λ (z : promiseAt s p ≡ setWord). omega arith), le-leb (F .base) (promiseAt s p) (omega arith), i)
 
-  pub got-owned : (t p u : ℕ) → u < length (s .tasks) → promiseAt s p ≡ ownedBy u → got (F .base) s t p (promiseAt s p) ≡ followed s t p (walk (length (s .tasks)) s t u 1)
+  pub got-owned : (t p u : ℕ) → u < length (s .tasks) → promiseAt s p ≡ ownedBy u → got (F .base) s t p (promiseAt s p) ≡ followed s t p (walkFrom s t u)
   unfolding got
   got-owned t p u h o =
       let i : promiseAt s p - firstOwned ≡ u = omega arith in
@@ -149,10 +149,10 @@ module _ (F : Form) (s : Tables) (fits : firstOwned + length (s .tasks) ≤ F .b
     enough c = omega (arith, chain-bound s c, count-le live (s .tasks))
 
     pub got-back : {l : List ℕ} → Chain (waits s) u l → chainEnd u l ≡ t → got (F .base) s t p (promiseAt s p) ≡ followed s t p (back (1 + length l))
-    got-back c e = got-owned F s fits t p u h o ∙ ap (followed s t p) (walk-back s t r (length (s .tasks)) 1 c (enough c) e)
+    got-back c e = got-owned F s fits t p u h o ∙ ap (followed s t p) (walk-back (length (s .tasks)) (view s) t r (length (s .tasks)) 1 c (enough c) e)
 
     pub got-free : {l : List ℕ} → Chain (waits s) u l → chainEnd u l ≢ t → got (F .base) s t p (promiseAt s p) ≡ followed s t p (free (1 + length l))
-    got-free c e = got-owned F s fits t p u h o ∙ ap (followed s t p) (walk-free s t r (length (s .tasks)) 1 c (enough c) e)
+    got-free c e = got-owned F s fits t p u h o ∙ ap (followed s t p) (walk-free (length (s .tasks)) (view s) t r (length (s .tasks)) 1 c (enough c) e)
 
   -- a statement about what get does: four ways it may go
   pub got-is : (t p : ℕ) (Q : Outcome → Type 0) → taskAt s t ≡ readyWord → p < length (s .promises) → promiseAt s p ≢ unmadeWord

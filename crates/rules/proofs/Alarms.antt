@@ -11,11 +11,11 @@ use lib.Seq.{getD-set-same, getD-set-other}
 use Rattle.words.specs.Words.{Form, readyWord, waitsOn, firstOwned, unmadeWord, setWord, ownedBy, blamedOn}
 use Rattle.words.specs.Lists.{In}
 use Rattle.words.proofs.ListLaws.{within-table}
-use Rattle.rules.specs.Tables.{Tables, taskAt, promiseAt, liveTasks, awaitedBy, ownerOf}
-use Rattle.rules.specs.Chains.{Chain, chainEnd, view, graph, waits}
+use Rattle.rules.specs.Tables.{Tables, taskAt, promiseAt, liveTasks}
+use Rattle.rules.specs.Chains.{Chain, chainEnd, view, awaitedBy, ownerOf, graph, waits}
 use Rattle.rules.specs.Sound.{Sound, hop}
 use Rattle.rules.specs.Refusals.{getRows}
-use Rattle.rules.specs.Steps.{step-get, Outcome, outcome, withWait, Found, astray, back, free, walk, pairs, followed, got, step}
+use Rattle.rules.specs.Steps.{step-get, Outcome, outcome, withWait, Found, astray, back, free, walk, walkFrom, pairs, followed, got, step}
 use Rattle.rules.specs.Demands.{Apart, Good, Refusal, OwnersFrom, owners, LeadsTo, at-last, and-then, Stands, Alarm, Wait}
 use Rattle.rules.specs.declared.Answer.{Answer}
 use Rattle.rules.specs.declared.Answer.the-variants.{Value, Blamed, Waits, Cycle}
@@ -53,43 +53,43 @@ owners-some F s f sd p u h o = let (l, c) = owner-chain F s f sd p u h o in (u �
 
 -- what a walk went through on its way back to t would, had t waited on p, lead to t
 module _ (s : Tables) (t p : ℕ) where
-  walk-leads : (n j k u v q : ℕ) → walk n s t u j ≡ back k → promiseAt s q ≡ ownedBy u → taskAt (withWait s t p) v ≡ waitsOn q
-      → (m : ℕ) × (k ≡ j + m) × LeadsTo (withWait s t p) t v q (pairs (suc m) s v q)
+  walk-leads : (n j k u v q : ℕ) → walk n (length (s .tasks)) (view s) t u j ≡ back k → promiseAt s q ≡ ownedBy u → taskAt (withWait s t p) v ≡ waitsOn q
+      → (m : ℕ) × (k ≡ j + m) × LeadsTo (withWait s t p) t v q (pairs (suc m) (view s) v q)
   unfolding pairs hop
-  walk-leads zero j k u v q e o w = let z : astray ≡ back k = sym (walk-zero s t u j 0 (omega arith)) ∙ e in clash cc
-  walk-leads (suc n) j k u v q e o w = go (ℕ-discrete u t) (hopIs s (taskAt s u)) (λ x i. walk-leads n (j + 1) k x u i)
+  walk-leads zero j k u v q e o w = let z : astray ≡ back k = sym (walk-zero (length (s .tasks)) (view s) t u j 0 (omega arith)) ∙ e in clash cc
+  walk-leads (suc n) j k u v q e o w = go (ℕ-discrete u t) (hopIs (length (s .tasks)) (view s) (taskAt s u)) (λ x i. walk-leads n (j + 1) k x u i)
     where
-      go : Dec (u ≡ t) → HopIs s (taskAt s u)
-          → ((x i : ℕ) → walk n s t x (j + 1) ≡ back k → promiseAt s i ≡ ownedBy x → taskAt (withWait s t p) u ≡ waitsOn i → (m : ℕ) × (k ≡ j + 1 + m) × LeadsTo (withWait s t p) t u i (pairs (suc m) s u i))
-          → (m : ℕ) × (k ≡ j + m) × LeadsTo (withWait s t p) t v q (pairs (suc m) s v q)
+      go : Dec (u ≡ t) → HopIs (length (s .tasks)) (view s) (taskAt s u)
+          → ((x i : ℕ) → walk n (length (s .tasks)) (view s) t x (j + 1) ≡ back k → promiseAt s i ≡ ownedBy x → taskAt (withWait s t p) u ≡ waitsOn i → (m : ℕ) × (k ≡ j + 1 + m) × LeadsTo (withWait s t p) t u i (pairs (suc m) (view s) u i))
+          → (m : ℕ) × (k ≡ j + m) × LeadsTo (withWait s t p) t v q (pairs (suc m) (view s) v q)
       go (yes z) h rec =
-          let b : back j ≡ back k = sym (walk-here s t u j (suc n) (omega arith) z) ∙ e in
+          let b : back j ≡ back k = sym (walk-here (length (s .tasks)) (view s) t u j (suc n) (omega arith) z) ∙ e in
           let c : j ≡ k = cc in
           (0, omega arith, at-last w (o ∙ ap ownedBy z))
-      go (no z) (is-ready x h) rec = let b : free j ≡ back k = sym (walk-ready s t u j (suc n) (omega arith) z h) ∙ e in clash cc
-      go (no z) (is-lost x y h) rec = let b : astray ≡ back k = sym (walk-lost s t u j (suc n) (omega arith) z h) ∙ e in clash cc
+      go (no z) (is-ready x h) rec = let b : free j ≡ back k = sym (walk-ready (length (s .tasks)) (view s) t u j (suc n) (omega arith) z h) ∙ e in clash cc
+      go (no z) (is-lost x y h) rec = let b : astray ≡ back k = sym (walk-lost (length (s .tasks)) (view s) t u j (suc n) (omega arith) z h) ∙ e in clash cc
       go (no z) (is-to i x w′ o′ b h) rec =
           let i′ : n ≡ suc n - 1 = omega arith in
-          let c : walk n s t x (j + 1) ≡ back k = ap (λ (y : ℕ). walk y s t x (j + 1)) i′ ∙ sym (walk-on s t u j (suc n) x (omega arith) z h) ∙ e in
+          let c : walk n (length (s .tasks)) (view s) t x (j + 1) ≡ back k = ap (λ (y : ℕ). walk y (length (s .tasks)) (view s) t x (j + 1)) i′ ∙ sym (walk-on (length (s .tasks)) (view s) t u j (suc n) x (omega arith) z h) ∙ e in
           let (m, f, l) = rec x i c o′ (getD-set-other (s .tasks) t u (waitsOn p) 0 z ∙ w′) in
-          let y : ownerOf s q ≡ u = omega arith in
-          let y′ : awaitedBy s u ≡ i = omega arith in
+          let y : ownerOf (view s) q ≡ u = omega arith in
+          let y′ : awaitedBy (view s) u ≡ i = omega arith in
           (suc m, omega arith, rw (y, y′) (and-then w o z l))
 
-  followed-cycle : (k : ℕ) (f : Found) → followed s t p f .answer ≡ Cycle k → (f ≡ back k) × (followed s t p f .words ≡ pairs k s t p)
+  followed-cycle : (k : ℕ) (f : Found) → followed s t p f .answer ≡ Cycle k → (f ≡ back k) × (followed s t p f .words ≡ pairs k (view s) t p)
   unfolding followed
-  followed-cycle k (back i) e = let z : i ≡ k = cc in (ap back z, ap (λ (x : ℕ). pairs x s t p) z)
+  followed-cycle k (back i) e = let z : i ≡ k = cc in (ap back z, ap (λ (x : ℕ). pairs x (view s) t p) z)
   followed-cycle k (free i) e = clash cc
   followed-cycle k astray e = clash cc
 
   -- an alarm shows the ring that would stand
-  pub followed-stands : t < length (s .tasks) → (k u : ℕ) → promiseAt s p ≡ ownedBy u → (x : Outcome) → x ≡ followed s t p (walk (length (s .tasks)) s t u 1) → x .answer ≡ Cycle k
+  pub followed-stands : t < length (s .tasks) → (k u : ℕ) → promiseAt s p ≡ ownedBy u → (x : Outcome) → x ≡ followed s t p (walkFrom s t u) → x .answer ≡ Cycle k
       → Stands (withWait s t p) t p (x .words)
   followed-stands h k u o x e alarm =
       let (a, b) = followed-cycle k _ (sym (ap (λ (y : Outcome). y .answer) e) ∙ alarm) in
       let (m, q, l) = walk-leads (length (s .tasks)) 1 k u t p a o (getD-set-same (s .tasks) t (waitsOn p) 0 h) in
       let c : suc m ≡ k = omega arith in
-      subst (Stands (withWait s t p) t p) (ap (λ (i : ℕ). pairs i s t p) c ∙ sym b ∙ sym (ap (λ (y : Outcome). y .words) e)) l
+      subst (Stands (withWait s t p) t p) (ap (λ (i : ℕ). pairs i (view s) t p) c ∙ sym b ∙ sym (ap (λ (y : Outcome). y .words) e)) l
 
 module _ (F : Form) (apart : Apart F) (n : ℕ) (s : Tables) (g : Good F n s) where
   -- a get of a ready task on a promise that was made is not refused
@@ -107,7 +107,7 @@ module _ (F : Form) (apart : Apart F) (n : ℕ) (s : Tables) (g : Good F n s) wh
       get-accepted t p r (λ (z : promiseAt s p ≡ unmadeWord). omega (arith, apart)) ∙ got-blamed F s (fits F apart n s (g .bounds)) t p b o
 
   -- where the asker is one of the owners, it alarms
-  pub get-alarms : (t p : ℕ) (l : List ℕ) → taskAt s t ≡ readyWord → OwnersFrom s p l → In t l → step F n s (step-get t p) ≡ outcome (Cycle (length l)) s (pairs (length l) s t p)
+  pub get-alarms : (t p : ℕ) (l : List ℕ) → taskAt s t ≡ readyWord → OwnersFrom s p l → In t l → step F n s (step-get t p) ≡ outcome (Cycle (length l)) s (pairs (length l) (view s) t p)
   unfolding followed
   get-alarms t p l r (owners {u = u} {l = k} h o c) i =
       get-accepted t p r (λ (z : promiseAt s p ≡ unmadeWord). omega arith)

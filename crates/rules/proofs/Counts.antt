@@ -9,16 +9,17 @@ use lib.ListN.{length, length-append}
 use Rattle.words.specs.Words.{Form, roomFor, setWord, firstOwned, waitsOn, ownedBy}
 use Rattle.words.specs.Lists.{is, places}
 use Rattle.words.proofs.ListLaws.{places-length}
-use Rattle.rules.specs.Tables.{Tables, promiseAt, awaitedBy, ownerOf}
+use Rattle.rules.specs.Tables.{Tables, promiseAt}
+use Rattle.rules.specs.Chains.{View, view, awaitedBy, ownerOf}
 use Rattle.rules.specs.Sound.{Hop, ready, lost, to, hop}
 use Rattle.rules.specs.Answers.{laid, wordCount}
-use Rattle.rules.specs.Steps.{Step, step-new, step-set, step-get, step-async, step-end, Outcome, outcome, Found, astray, back, free, walk, walkBy, pairs, awaits, followed, got, stepRefused, entryRefused, effect, raw, step}
+use Rattle.rules.specs.Steps.{Step, step-new, step-set, step-get, step-async, step-end, Outcome, outcome, Found, astray, back, free, walk, walkBy, walkFrom, pairs, awaits, followed, got, stepRefused, entryRefused, effect, raw, step}
 use Rattle.rules.specs.declared.Answer.{Answer}
 use Rattle.rules.specs.declared.Answer.the-variants.{Value, Blamed}
 use Rattle.rules.proofs.GuardLaws.{guarded-by, got-cases, started-by}
 use Rattle.rules.proofs.AnswerLaws.{at-with-by, stepRefused-by}
 
-pub pairs-length : (k : ℕ) (s : Tables) (t p : ℕ) → length (pairs k s t p) ≡ 2 * k
+pub pairs-length : (k : ℕ) (s : View) (t p : ℕ) → length (pairs k s t p) ≡ 2 * k
 unfolding pairs
 pairs-length zero s t p = refl
 pairs-length (suc k) s t p = omega (arith, pairs-length k s (ownerOf s p) (awaitedBy s (ownerOf s p)))
@@ -32,12 +33,12 @@ reached (back k) = k
 reached (free k) = k
 
 -- from the k-th owner on, with a bound of n
-pub walk-reached : (n : ℕ) (s : Tables) (t u k : ℕ) → 0 < k → reached (walk n s t u k) < k + n
+pub walk-reached : (n T : ℕ) (s : View) (t u k : ℕ) → 0 < k → reached (walk n T s t u k) < k + n
 unfolding walk
-walk-reached zero s t u k h = omega arith
-walk-reached (suc n) s t u k h = go (eqb u t) (hop s u) (λ x. walk-reached n s t x (suc k) (omega arith))
+walk-reached zero T s t u k h = omega arith
+walk-reached (suc n) T s t u k h = go (eqb u t) (hop T s u) (λ x. walk-reached n T s t x (suc k) (omega arith))
   where
-    go : (b : Bool) (j : Hop) → ((x : ℕ) → reached (walk n s t x (suc k)) < suc k + n) → reached (walkBy b j k (λ x. walk n s t x (suc k))) < k + suc n
+    go : (b : Bool) (j : Hop) → ((x : ℕ) → reached (walk n T s t x (suc k)) < suc k + n) → reached (walkBy b j k (λ x. walk n T s t x (suc k))) < k + suc n
     go true j rec = omega arith
     go false ready rec = omega arith
     go false lost rec = omega arith
@@ -61,7 +62,7 @@ effect-counted : (F : Form) (s : Tables) (x : Step) → Counted (effect F s x)
 unfolding laid
 effect-counted F s (step-new t p) = refl
 effect-counted F s (step-set t p) = omega arith
-effect-counted F s (step-get t p) = got-cases Counted (F .base) s t p (promiseAt s p) refl (λ b. refl) (λ k. omega (arith, pairs-length k s t p)) (λ k. refl)
+effect-counted F s (step-get t p) = got-cases Counted (F .base) s t p (promiseAt s p) refl (λ b. refl) (λ k. omega (arith, pairs-length k (view s) t p)) (λ k. refl)
 effect-counted F s (step-async t c list) = started-by Counted (F .base) s t c list _ (λ h. entry-counted (F .base) s t list _) (λ h. refl)
 effect-counted F s (step-end t) = omega (arith, length-append (places (is (ownedBy t)) 0 (s .promises)) (places (awaits (s .promises) (ownedBy t)) 0 (s .tasks)))
 
@@ -80,12 +81,12 @@ module _ (F : Form) (s : Tables) where
 
   got-room : (t p w : ℕ) → HasRoom (got (F .base) s t p w)
   unfolding got followed
-  got-room t p w = go (eqb w setWord) (leb (F .base) w) (walk (length (s .tasks)) s t (w - firstOwned) 1) (walk-reached (length (s .tasks)) s t (w - firstOwned) 1 (omega arith))
+  got-room t p w = go (eqb w setWord) (leb (F .base) w) (walkFrom s t (w - firstOwned)) (walk-reached (length (s .tasks)) (length (s .tasks)) (view s) t (w - firstOwned) 1 (omega arith))
     where
       go : (x y : Bool) (f : Found) → reached f < 1 + length (s .tasks) → HasRoom (cond x (outcome Value s []) (cond y (outcome (Blamed (w - F .base)) s []) (followed s t p f)))
       go true y f h = omega arith
       go false true f h = omega arith
-      go false false (back k) h = omega (arith, pairs-length k s t p)
+      go false false (back k) h = omega (arith, pairs-length k (view s) t p)
       go false false (free k) h = omega arith
       go false false astray h = omega arith
 

@@ -11,7 +11,8 @@ use lib.ListN.{length}
 use borrow.Author.Tests.{eq-eqb, ne-eqb, ltb-true, ltb-false}
 use Rattle.words.specs.Words.{setWord, firstOwned}
 use Rattle.rules.specs.Tables.{Tables}
-use Rattle.rules.specs.Steps.{Outcome, outcome, withWait, withStarted, Found, astray, back, free, walk, pairs, followed, got, guarded, entryRefused, started}
+use Rattle.rules.specs.Chains.{view}
+use Rattle.rules.specs.Steps.{Outcome, outcome, withWait, withStarted, Found, astray, back, free, walkFrom, pairs, followed, got, guarded, entryRefused, started}
 use Rattle.rules.specs.declared.Answer.{Answer}
 use Rattle.rules.specs.declared.Answer.the-variants.{Value, Blamed, Waits, Cycle, Started}
 
@@ -38,9 +39,9 @@ guarded-is f r s o Q stays passed = guarded-by (λ (x : Outcome). Q (x .after)) 
 
 -- a get that is not refused answers value, blamed, cycle or waits
 pub got-cases : (Q : Outcome → Type 0) (B : ℕ) (s : Tables) (t p w : ℕ) → Q (outcome Value s []) → ((b : ℕ) → Q (outcome (Blamed b) s []))
-    → ((k : ℕ) → Q (outcome (Cycle k) s (pairs k s t p))) → ((k : ℕ) → Q (outcome (Waits k) (withWait s t p) [])) → Q (got B s t p w)
+    → ((k : ℕ) → Q (outcome (Cycle k) s (pairs k (view s) t p))) → ((k : ℕ) → Q (outcome (Waits k) (withWait s t p) [])) → Q (got B s t p w)
 unfolding got followed
-got-cases Q B s t p w v b c k = go (eqb w setWord) (leb B w) (walk (length (s .tasks)) s t (w - firstOwned) 1)
+got-cases Q B s t p w v b c k = go (eqb w setWord) (leb B w) (walkFrom s t (w - firstOwned))
   where
     go : (x y : Bool) (f : Found) → Q (cond x (outcome Value s []) (cond y (outcome (Blamed (w - B)) s []) (followed s t p f)))
     go true y f = v

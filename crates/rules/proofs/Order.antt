@@ -9,17 +9,17 @@ use native.Mathlib.Omega.{arith}
 use native.Mathlib.Decide.{ℕ-discrete}
 use lib.Dec.{eqb}
 use borrow.Author.Tests.{eqb-false, eq-eqb, ne-eqb, lt-ltb}
-use lib.ListN.{length, getD}
+use lib.ListN.{length, getD, drop}
 use Rattle.words.specs.Words.{Form}
 use Rattle.words.specs.Lists.{In, top, pop}
 use Rattle.words.proofs.BoolLaws.{clash}
-use Rattle.words.proofs.ListLaws.{in-left, in-right}
+use Rattle.words.proofs.ListLaws.{allPass, in-passes, isIn, isIn-true, in-left, in-right}
 use Rattle.rules.specs.Tables.{Tables, promiseAt, blamedTask, inBounds}
 use Rattle.rules.specs.Sound.{soundTest}
 use Rattle.rules.specs.Answers.{laid, numberOf, valuesOf, byNumber, refusedAtWith}
 use Rattle.rules.specs.Refusals.{Row, first, earlier, tableRows, entryRows, entryRefusal, firstBad}
 use Rattle.rules.specs.Steps.{Step, step-new, step-set, step-get, step-async, step-end, Outcome, outcome, got, guarded, entryRefused, started, rows, stepRefused, effect, raw, step}
-use Rattle.rules.specs.Demands.{numbers, paperRows, paperEntryRows, paperNumbers, FirstGiven, now, later, NoneGiven, no-row, not-this, BadPlace, Refusal, HowRefused, by-row, for-entry}
+use Rattle.rules.specs.Demands.{numbers, paperRows, paperEntryRows, paperNumbers, stepNumbers, FirstGiven, now, later, NoneGiven, no-row, not-this, BadPlace, Refusal, HowRefused, by-row, for-entry}
 use Rattle.rules.specs.declared.Answer.{Answer}
 use Rattle.rules.specs.declared.Answer.the-variants.{Started, Refused}
 use Rattle.rules.proofs.GuardLaws.{guarded-by, guarded-none, guarded-some, got-cases, started-by}
@@ -36,6 +36,10 @@ papers-order F n s (step-set t p) = refl
 papers-order F n s (step-get t p) = refl
 papers-order F n s (step-async t c list) = refl
 papers-order F n s (step-end t) = refl
+
+-- those of its own, from 3 on
+pub own-order : (F : Form) (s : Tables) (x : Step) → numbers (rows F s x) ≡ drop 2 (paperRows x)
+own-order F s x = ap (drop 2) (papers-order F 0 s x)
 
 -- ---- the first row
 
@@ -332,6 +336,14 @@ rows-among (step-get t p) i = i
 rows-among (step-async t c list) i = in-left paperEntryRows i
 rows-among (step-end t) i = i
 
+-- each is a number of the steps
+papers-among : (x : Step) → allPass (isIn stepNumbers) (paperNumbers x) ≡ true
+papers-among (step-new t p) = refl
+papers-among (step-set t p) = refl
+papers-among (step-get t p) = refl
+papers-among (step-async t c list) = refl
+papers-among (step-end t) = refl
+
 -- for an entry by one of its rows
 started-among : (F : Form) (s : Tables) (t c : ℕ) (list : List ℕ) → Refusal (effect F s (step-async t c list) .answer) → In (numberOf (effect F s (step-async t c list) .answer)) paperEntryRows
 unfolding entryRefusal
@@ -369,3 +381,9 @@ own-number F n s x = subst Own (sym (step-guarded F n s x)) (guarded-by Own (ste
     by-row m w =
         let i = rows-among x (subst (In r) (papers-order F n s x) (given-in (first-given (tableRows F n s ++ rows F s x) r m refl))) in
         subst (λ (q : ℕ). In q (paperNumbers x)) (sym (stepRefused-number F s x r)) i
+
+-- a test that every number of the steps passes, the number of a step's refusal passes
+pub refusal-passes : (f : ℕ → Bool) → allPass f stepNumbers ≡ true → (F : Form) (n : ℕ) (s : Tables) (x : Step)
+    → Refusal (step F n s x .answer) → f (numberOf (step F n s x .answer)) ≡ true
+refusal-passes f e F n s x w =
+    in-passes f e (isIn-true stepNumbers _ (in-passes (isIn stepNumbers) (papers-among x) (own-number F n s x w)))

@@ -15,7 +15,7 @@ use Rattle.words.specs.Words.{Form, readyWord, unmadeWord, setWord, firstOwned,
 use Rattle.words.specs.Lists.{In, top, pop}
 use Rattle.rules.specs.Tables.{Tables, taskAt, promiseAt}
 use Rattle.rules.specs.Refusals.{first, tableRows, entryRefusal, firstBad, newRows, getRows, ownRows, childRows}
-use Rattle.rules.specs.Steps.{Step, step-new, step-set, step-get, step-async, step-end, Outcome, outcome, given, withStarted, Found, astray, back, free, walk, followed, got, guarded, started, rows, effect, raw, step}
+use Rattle.rules.specs.Steps.{Step, step-new, step-set, step-get, step-async, step-end, Outcome, outcome, given, withStarted, Found, astray, back, free, walkFrom, followed, got, guarded, started, rows, effect, raw, step}
 use Rattle.rules.specs.Demands.{Refusal, plain}
 use Rattle.rules.specs.Published.{NewRule, SetRule, SpawnRule, GetRule, EndRule, Asserted}
 use Rattle.rules.specs.declared.Answer.{Answer}
@@ -116,7 +116,7 @@ module _ (F : Form) (n : ℕ) (s : Tables) (t c : ℕ) (list : List ℕ) where
 -- a get answers value only where the word is that of a set promise
 value-set : (B : ℕ) (s : Tables) (t p w : ℕ) → got B s t p w .answer ≡ Value → w ≡ setWord
 unfolding got followed
-value-set B s t p w e = go (eqb w setWord) refl (leb B w) (walk (length (s .tasks)) s t (w - firstOwned) 1) e
+value-set B s t p w e = go (eqb w setWord) refl (leb B w) (walkFrom s t (w - firstOwned)) e
   where
     go : (x : Bool) → eqb w setWord ≡ x → (y : Bool) (f : Found)
         → cond x (outcome Value s []) (cond y (outcome (Blamed (w - B)) s []) (followed s t p f)) .answer ≡ Value → w ≡ setWord

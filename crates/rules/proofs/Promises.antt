@@ -10,7 +10,7 @@ use lib.ListN.{length, getD, replicate}
 use Rattle.words.specs.Words.{Form, small, roomFor, unusedWord, readyWord, endedWord, waitsOn, unmadeWord, setWord, firstOwned, ownedBy, blamedOn}
 use Rattle.words.specs.Lists.{In}
 use Rattle.rules.specs.Tables.{Tables, tables, taskAt, promiseAt, liveTasks, closed, blamedTask, fresh, inBounds}
-use Rattle.rules.specs.Chains.{Chain, waits}
+use Rattle.rules.specs.Chains.{Chain, waits, view}
 use Rattle.rules.specs.Sound.{Live, Sound, soundTest}
 use Rattle.rules.specs.Answers.{laid, numberOf, valuesOf, wordCount, answerOf, refusedAtWith}
 use Rattle.rules.specs.Refusals.{tableRows, entryRows}
@@ -18,8 +18,7 @@ use Rattle.rules.specs.Steps.{Step, step-new, step-set, step-get, step-a
 use Rattle.rules.specs.ProvedSet.{provedSet, blamedSet, ringSet, taken, takenUntested, expected}
 use Rattle.rules.specs.Demands.{Apart, Good, numbers, paperRows, paperEntryRows, paperNumbers, FirstGiven, NoneGiven, BadPlace, Refusal, HowRefused, OwnersFrom, Alarm, Wait, Named, Woken, Demand3, hadWaited, Pair, Stands, RunsInto}
 use Rattle.rules.specs.Published.{NewRule, SetRule, SpawnRule, GetRule, EndRule, Asserted}
-use Rattle.rules.specs.Contracts.{Gives}
-use Rattle.rules.specs.Sessions.{Freshens}
+use Rattle.rules.specs.Contracts.{Gives, Freshens}
 use Rattle.rules.specs.declared.Answer.{Answer}
 use Rattle.rules.specs.declared.Answer.the-variants.{Made, Set, Value, Blamed, Waits, Cycle, Started, Ended, Refused, RefusedAt, RefusedBlamed, RefusedBlamedAt}
 use Rattle.rules.proofs.Alarms as alarms
@@ -183,7 +182,7 @@ module _ (F : Form) (apart : Apart F) (n : ℕ) (s : Tables) (good : Good F n s)
   blamed-if-blamed = alarms.get-blamed F apart n s good
 
   -- "A get alarms exactly when the chain of owners and waits leads back to the asker", and then reports that ring and changes no table
-  pub alarms-if-back : (t p : ℕ) (l : List ℕ) → taskAt s t ≡ readyWord → OwnersFrom s p l → In t l → step F n s (step-get t p) ≡ outcome (Cycle (length l)) s (pairs (length l) s t p)
+  pub alarms-if-back : (t p : ℕ) (l : List ℕ) → taskAt s t ≡ readyWord → OwnersFrom s p l → In t l → step F n s (step-get t p) ≡ outcome (Cycle (length l)) s (pairs (length l) (view s) t p)
   alarms-if-back = alarms.get-alarms F apart n s good
 
   -- otherwise it waits, and the owners reached are its chain

@@ -12,14 +12,10 @@ use borrow.Author.Tests.{eqb-true, eqb-false, ltb-true, leb-true, eq-eqb, ne-eqb
 use lib.ListN.{length, getD}
 use Rattle.words.specs.Words.{unusedWord, readyWord, firstWait, unmadeWord, setWord, ownedBy}
 use Rattle.words.specs.Lists.{allBelow}
-use Rattle.words.proofs.BoolLaws.{or-split, true-is-not-false}
+use Rattle.words.proofs.BoolLaws.{not-is-false, or-split, true-is-not-false}
 use Rattle.words.proofs.ListLaws.{within-table}
 use Rattle.rules.specs.Tables.{live, waiting}
 use Rattle.rules.specs.Refusals.{Row, first, earlier, actorRows, childRows, newRows, getRows, ownRows, entryRefusal, differs, firstBad}
-
-pub not-is-false : (b : Bool) → not b ≡ false → b ≡ true
-not-is-false true e = refl
-not-is-false false e = sym e
 
 -- a row that is not the first that applies, and what follows it
 pub first-past : {q : ℕ} (r : ℕ) (b : Bool) (rows : List Row) → r ≢ q → first ((r, b) ∷ rows) ≡ q → (b ≡ false) × (first rows ≡ q)

@@ -12,6 +12,7 @@ use lib.ListN.{length, length-set}
 use lib.Seq.{getD-set-same, getD-set-other}
 use Rattle.words.specs.Words.{Form, readyWord, waitsOn, unmadeWord, firstOwned, ownedBy}
 use Rattle.words.proofs.ListLaws.{within-table}
+use Rattle.words.proofs.BoolLaws.{not-is-false}
 use Rattle.rules.specs.Tables.{Tables, taskAt, promiseAt, inBounds}
 use Rattle.rules.specs.Chains.{WaitsFor, Chain, here, link, view, waits}
 use Rattle.rules.specs.Sound.{Sound, to, hop, soundTest}
@@ -26,7 +27,7 @@ use Rattle.rules.proofs.GuardLaws.{guarded-is, guarded-none}
 use Rattle.rules.proofs.Kept.{fits, accepted-good}
 use Rattle.rules.proofs.Moves.{link-words, Moves, frame}
 use Rattle.rules.proofs.Named.{let-through}
-use Rattle.rules.proofs.RefusalLaws.{not-is-false, first-past, actorRows-none, ready-acts, made-passes}
+use Rattle.rules.proofs.RefusalLaws.{first-past, actorRows-none, ready-acts, made-passes}
 use Rattle.rules.proofs.SoundTest.{soundTest-sound, sound-soundTest}
 use Rattle.rules.proofs.WalkLaws.{hop-to}
 
@@ -108,12 +109,12 @@ module _ (W : ℕ → Type 0) where
         no-chain m c
 
     -- following owners from it, on behalf of a ready task, finds neither that task nor another ready one
-    walk-astray : (t : ℕ) → taskAt s t ≡ readyWord → (n k u : ℕ) → W u → walk n s t u k ≡ astray
+    walk-astray : (t : ℕ) → taskAt s t ≡ readyWord → (n k u : ℕ) → W u → walk n (length (s .tasks)) (view s) t u k ≡ astray
     unfolding walk hop
     walk-astray t r zero k u m = refl
     walk-astray t r (suc n) k u m =
         let (p, x, w, o, m′) = st u m in
-        let f : hop s u ≡ to x = hop-to s (taskAt s u) p x w o (below x m′) in
+        let f : hop (length (s .tasks)) (view s) u ≡ to x = hop-to (length (s .tasks)) (view s) (taskAt s u) p x w o (below x m′) in
         rw (ne-eqb u t (not-ready t u r m), f) (walk-astray t r n (suc k) x m′)
 
     got-entered : (F : Form) → firstOwned + length (s .tasks) ≤ F .base → (t p u : ℕ) → taskAt s t ≡ readyWord → promiseAt s p ≡ ownedBy u → W u

@@ -14,8 +14,8 @@ use Rattle.words.specs.Words.{unusedWord, readyWord, endedWord, waitsOn, firstW
 use Rattle.words.specs.Lists.{allBelow}
 use Rattle.words.proofs.BoolLaws.{and-yes, and-split, or-split, or-left, or-right}
 use Rattle.words.proofs.ListLaws.{allBelow-at, allBelow-make, count-le, pigeon}
-use Rattle.rules.specs.Tables.{Tables, taskAt, promiseAt, live, waiting, liveTasks, awaitedBy}
-use Rattle.rules.specs.Chains.{Chain, here, link, Comes, WaitsFor, view}
+use Rattle.rules.specs.Tables.{Tables, taskAt, promiseAt, live, waiting, liveTasks}
+use Rattle.rules.specs.Chains.{Chain, here, link, Comes, WaitsFor, view, awaitedBy}
 use Rattle.rules.specs.Chains as chains
 use Rattle.rules.specs.Sound.{Live, TaskWord, unused, ready, ended, waits, PromiseWord, unmade, done, owned, blamed, Sound, comes, taskPasses, promisePasses, soundTest}
 use Rattle.rules.proofs.GraphLaws.{on-chain, no-dup}
@@ -70,13 +70,13 @@ module _ (B : ℕ) (s : Tables) where
       go₂ (inr a) = t-ended (eqb-true _ _ a)
 
       go₃ : ((eqb (taskAt s v) 0 || eqb (taskAt s v) 1 || eqb (taskAt s v) 2) ≡ true)
-          ⊎ ((waiting (taskAt s v) && ltb (awaitedBy s v) (length (s .promises)) && comes (length (s .tasks)) s v) ≡ true) → TaskIs v
+          ⊎ ((waiting (taskAt s v) && ltb (awaitedBy (view s) v) (length (s .promises)) && comes (length (s .tasks)) (length (s .tasks)) (view s) v) ≡ true) → TaskIs v
       go₃ (inl a) = go₂ (or-split _ _ a)
       go₃ (inr a) =
           let (bc, r) = and-split _ _ a in
           let (b, c) = and-split _ _ bc in
           let h : 16 ≤ taskAt s v = leb-true firstWait (taskAt s v) b in
-          t-waits (awaitedBy s v) (ltb-true _ _ c) (omega arith) (comes-chain s (length (s .tasks)) v r)
+          t-waits (awaitedBy (view s) v) (ltb-true _ _ c) (omega arith) (comes-chain (length (s .tasks)) (view s) (length (s .tasks)) v r)
 
   prom-is : (q : ℕ) → promisePasses B s q ≡ true → PromIs q
   unfolding promisePasses
@@ -178,8 +178,8 @@ module _ (B : ℕ) (s : Tables) where
     task-pass v (waits p h e) =
         let (l, c) = sd .chainComes v p e in
         or-right (eqb (taskAt s v) 0 || eqb (taskAt s v) 1 || eqb (taskAt s v) 2) _
-        (and-yes _ _ (and-yes _ _ (le-leb firstWait (taskAt s v) (omega arith)) (lt-ltb (awaitedBy s v) (length (s .promises)) (omega arith)))
-        (chain-comes s (length (s .tasks)) c (omega (arith, chain-bound s c, count-le live (s .tasks)))))
+        (and-yes _ _ (and-yes _ _ (le-leb firstWait (taskAt s v) (omega arith)) (lt-ltb (awaitedBy (view s) v) (length (s .promises)) (omega arith)))
+        (chain-comes (length (s .tasks)) (view s) (length (s .tasks)) c (omega (arith, chain-bound s c, count-le live (s .tasks)))))
 
     prom-pass : (q : ℕ) → PromiseWord (length (s .tasks)) B (promiseAt s q) → promisePasses B s q ≡ true
     unfolding promisePasses

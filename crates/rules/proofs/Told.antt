@@ -6,14 +6,13 @@ use Prim.Native.Nat.{ℕ, _<_}
 use lib.Dec.{eqb, ltb}
 use borrow.Author.Tests.{ltb-true, lt-ltb, le-ltb, ne-eqb}
 use Rattle.words.specs.Words.{Form}
-use Rattle.words.proofs.ListLaws.{allPass, in-passes}
 use Rattle.rules.specs.Tables.{Tables}
 use Rattle.rules.specs.Answers.{laid, numberOf, valuesOf, refusalOf, answerOf}
-use Rattle.rules.specs.Steps.{Step, step-new, step-set, step-get, step-async, step-end, step}
-use Rattle.rules.specs.Demands.{paperNumbers, Refusal, HowRefused, by-row, for-entry}
+use Rattle.rules.specs.Steps.{Step, step}
+use Rattle.rules.specs.Demands.{Refusal, HowRefused, by-row, for-entry}
 use Rattle.rules.specs.declared.Answer.{Answer}
 use Rattle.rules.proofs.AnswerLaws.{Accepted, accepted-or-refused, at-with-by, stepRefused-by}
-use Rattle.rules.proofs.Order.{how-refused, own-number}
+use Rattle.rules.proofs.Order.{how-refused, refusal-passes}
 
 abbrev Told : Answer → Type 0
 Told a = (answerOf (numberOf a) (valuesOf a) ≡ a) × (laid a .refuses ≡ ltb (numberOf a) 100)
@@ -30,14 +29,7 @@ unfolding laid answerOf refusalOf
 refused-told F s x (by-row r) = stepRefused-by (λ (a : Answer). numberOf a < 100 → Told a) F s x r (λ b e h. (refl, refl)) (λ h. rw (lt-ltb r 100 h) (refl, refl))
 refused-told F s x (for-entry t c list i b r e) = at-with-by (λ (a : Answer). numberOf a < 100 → Told a) b i r (λ q h. (refl, refl)) (λ q h. rw (lt-ltb r 100 h, ne-eqb r 17 q) (refl, refl))
 
-papers-below : (x : Step) → allPass (λ r. ltb r 100) (paperNumbers x) ≡ true
-papers-below (step-new t p) = refl
-papers-below (step-set t p) = refl
-papers-below (step-get t p) = refl
-papers-below (step-async t c list) = refl
-papers-below (step-end t) = refl
-
 pub step-told : (F : Form) (n : ℕ) (s : Tables) (x : Step) → Told (step F n s x .answer)
 step-told F n s x =
     told-back (step F n s x .answer)
-    (λ w. refused-told F s x (how-refused F n s x w) (ltb-true (numberOf (step F n s x .answer)) 100 (in-passes (λ r. ltb r 100) (papers-below x) (own-number F n s x w))))
+    (λ w. refused-told F s x (how-refused F n s x w) (ltb-true (numberOf (step F n s x .answer)) 100 (refusal-passes (λ r. ltb r 100) refl F n s x w)))

@@ -1,6 +1,7 @@
 -- Who waits for whom, and the chain of a waiting task. Paper: 01, "Tables and words".
 --
---   View, view s           the word of each task and of each promise
+--   View, viewOf ts ps, view s   the word of each task and of each promise: all that chains read
+--   awaitedBy s t, ownerOf s p   the promise that t awaits; the task that owns p
 --   WaitsFor T s v p u     v waits on p, which u owns
 --   Graph, waits T s       ready tasks, and who waits for whom
 --   Chain g t l            l is the chain of t: its links, to a ready task
@@ -9,17 +10,28 @@
 -- Assumes nothing.
 use mathlib.Core.Path.{_≡_}
 use mathlib.Core.List.{List, [], _∷_}
-use Prim.Native.Nat.{ℕ, _<_}
-use lib.ListN.{length}
-use Rattle.words.specs.Words.{readyWord, waitsOn, ownedBy}
-use Rattle.rules.specs.Tables.{Tables, taskAt, promiseAt}
+use Prim.Native.Nat.{ℕ, _-_, _<_}
+use lib.ListN.{length, getD}
+use Rattle.words.specs.Words.{readyWord, firstWait, waitsOn, firstOwned, ownedBy}
+use Rattle.rules.specs.Tables.{Tables}
 
 pub record View : Type 0 where
   pub task : ℕ → ℕ
   pub promise : ℕ → ℕ
 
+-- of the words ts and ps
+abbrev pub viewOf : List ℕ → List ℕ → View
+viewOf ts ps = record { task = λ t. getD ts t 0; promise = λ p. getD ps p 0 }
+
 abbrev pub view : Tables → View
-view s = record { task = taskAt s; promise = promiseAt s }
+view s = viewOf (s .tasks) (s .promises)
+
+-- "16+p waits on p", "16+t owned by t", read back: the promise that t awaits, if it waits, and the task that owns p, if it is owned
+abbrev pub awaitedBy : View → ℕ → ℕ
+awaitedBy s t = s .task t - firstWait
+
+abbrev pub ownerOf : View → ℕ → ℕ
+ownerOf s p = s .promise p - firstOwned
 
 pub record WaitsFor (T : ℕ) (s : View) (v p u : ℕ) : Type 0 where
   pub waits : s .task v ≡ waitsOn p

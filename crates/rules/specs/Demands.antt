@@ -2,7 +2,7 @@
 --
 --   Apart F, Good F n s                 a form whose owned and blamed words do not meet; tables within their bounds, and sound
 --   numbers rows, paperRows x           the numbers of the rows; those of the paper's table
---   paperNumbers x                      all numbers that a step may be refused by
+--   paperNumbers x, stepNumbers         all numbers that a step, and that any step, may be refused by
 --   FirstGiven r rows                   r is the number of the first row that applies
 --   BadPlace B s t list i               i is the first bad place of an async list
 --   Refusal a, HowRefused F s x a       the answer a is a refusal; it refuses the step x by a row, or for an entry of a list
@@ -57,13 +57,17 @@ paperRows (step-end t) = 1 ∷ 2 ∷ 3 ∷ 4 ∷ 5 ∷ []
 abbrev pub paperEntryRows : List ℕ
 paperEntryRows = 6 ∷ 8 ∷ 9 ∷ 17 ∷ 10 ∷ 13 ∷ []
 
--- every number that a step may be refused by
+-- every number that the step may be refused by
 abbrev pub paperNumbers : Step → List ℕ
 paperNumbers (step-new t p) = paperRows (step-new t p)
 paperNumbers (step-set t p) = paperRows (step-set t p)
 paperNumbers (step-get t p) = paperRows (step-get t p)
 paperNumbers (step-async t c list) = paperRows (step-async t c list) ++ paperEntryRows
 paperNumbers (step-end t) = paperRows (step-end t)
+
+-- every number that some step may be refused by
+abbrev pub stepNumbers : List ℕ
+stepNumbers = 1 ∷ 2 ∷ 3 ∷ 4 ∷ 5 ∷ 6 ∷ 7 ∷ 8 ∷ 9 ∷ 10 ∷ 11 ∷ 12 ∷ 13 ∷ 17 ∷ []
 
 pub data FirstGiven (r : ℕ) : List Row → Type 0 where
   now : {rows : List Row} → FirstGiven r ((r, true) ∷ rows)

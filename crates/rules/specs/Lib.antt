@@ -8,4 +8,3 @@ pub mod ProvedSet
 pub mod Demands
 pub mod Published
 pub mod Contracts
-pub mod Sessions

@@ -10,14 +10,15 @@
 --   getRows ps p           6 and 8
 --   ownRows B ps t p       6, 8, 9, 17 and 10
 --   entryRows B ps t l i   6, 8, 9, 17, 10 and 13, of entry i of an async list
---   firstBad f n i         the first place from i on, below n, whose refusal by f is not 0; n where there is none
+--   firstBad f n i         the first place from i on whose refusal by f is not 0, of n places; i + n where there is none
+--   freshRows F T P, freshRefusal F T P   1, of making tables fresh: by their sizes alone
 -- Assumes nothing.
 use Prim.Native.Nat.{ℕ, zero, suc}
 use mathlib.Core.List.{List, [], _∷_, _++_}
 use mathlib.Core.Bool.{Bool, cond, not}
 use lib.Dec.{eqb, leb, ltb}
 use lib.ListN.{length, getD}
-use Rattle.words.specs.Words.{Form, unusedWord, unmadeWord, setWord, ownedBy}
+use Rattle.words.specs.Words.{Form, sizesInBounds, unusedWord, unmadeWord, setWord, ownedBy}
 use Rattle.words.specs.Lists.{allBelow}
 use Rattle.rules.specs.Tables.{Tables, live, waiting, inBounds}
 use Rattle.rules.specs.Sound.{soundTest}
@@ -96,3 +97,10 @@ entryRefusal B ps t list i = first (entryRows B ps t list i)
 unfoldable pub firstBad : (ℕ → ℕ) → ℕ → ℕ → ℕ
 firstBad f zero i = i
 firstBad f (suc n) i = cond (eqb (f i) 0) (firstBad f n (suc i)) i
+
+-- "a refused open (T not 1 to 64, P above 256: refusal 1)"
+abbrev pub freshRows : Form → ℕ → ℕ → List Row
+freshRows F T P = (1, not (sizesInBounds F T P)) ∷ []
+
+unfoldable pub freshRefusal : Form → ℕ → ℕ → ℕ
+freshRefusal F T P = first (freshRows F T P)

@@ -3,8 +3,8 @@
 --   TaskWord P w, PromiseWord T B w   w is a word of the task table, of the promise table
 --   Live w                            a task with the word w is ready or waits
 --   SoundView T P B s, Sound B s      the tables are sound
---   Hop, hop s v                      from task v to the owner of what it awaits
---   comes n s v                       following owners from v comes to a ready task in fewer than n hops
+--   Hop, hop T s v                    from task v, one of T, to the owner of what it awaits
+--   comes n T s v                     following owners from v comes to a ready task in fewer than n hops
 --   taskPasses s v, promisePasses B s q, soundTest B s   the test
 -- Assumes nothing.
 use mathlib.Core.Path.{_≡_}
@@ -15,8 +15,8 @@ use lib.Dec.{eqb, leb, ltb}
 use lib.ListN.{length}
 use Rattle.words.specs.Words.{unusedWord, readyWord, endedWord, firstWait, waitsOn, unmadeWord, setWord, firstOwned, ownedBy, blamedOn}
 use Rattle.words.specs.Lists.{allBelow}
-use Rattle.rules.specs.Tables.{Tables, taskAt, promiseAt, live, waiting, awaitedBy}
-use Rattle.rules.specs.Chains.{View, view, graph, Comes}
+use Rattle.rules.specs.Tables.{Tables, taskAt, promiseAt, live, waiting}
+use Rattle.rules.specs.Chains.{View, view, awaitedBy, graph, Comes}
 
 -- ---- the statement
 
@@ -61,26 +61,26 @@ abbrev pub hopOwner : ℕ → ℕ → Hop
 hopOwner T w = cond (leb firstOwned w && ltb (w - firstOwned) T) (to (w - firstOwned)) lost
 
 -- from a task with the word w
-abbrev pub hopWord : Tables → ℕ → Hop
-hopWord s w = cond (eqb w readyWord) ready (cond (waiting w) (hopOwner (length (s .tasks)) (promiseAt s (w - firstWait))) lost)
+abbrev pub hopWord : ℕ → View → ℕ → Hop
+hopWord T s w = cond (eqb w readyWord) ready (cond (waiting w) (hopOwner T (s .promise (w - firstWait))) lost)
 
-unfoldable pub hop : Tables → ℕ → Hop
-hop s v = hopWord s (taskAt s v)
+unfoldable pub hop : ℕ → View → ℕ → Hop
+hop T s v = hopWord T s (s .task v)
 
 abbrev pub comesBy : Hop → (ℕ → Bool) → Bool
 comesBy ready f = true
 comesBy lost f = false
 comesBy (to u) f = f u
 
-unfoldable pub comes : ℕ → Tables → ℕ → Bool
-comes zero s v = false
-comes (suc n) s v = comesBy (hop s v) (λ u. comes n s u)
+unfoldable pub comes : ℕ → ℕ → View → ℕ → Bool
+comes zero T s v = false
+comes (suc n) T s v = comesBy (hop T s v) (λ u. comes n T s u)
 
 -- a task's word is one of these, and its chain, if it waits, comes to a ready task
 unfoldable pub taskPasses : Tables → ℕ → Bool
 taskPasses s v =
     eqb (taskAt s v) unusedWord || eqb (taskAt s v) readyWord || eqb (taskAt s v) endedWord
-    || (waiting (taskAt s v) && ltb (awaitedBy s v) (length (s .promises)) && comes (length (s .tasks)) s v)
+    || (waiting (taskAt s v) && ltb (awaitedBy (view s) v) (length (s .promises)) && comes (length (s .tasks)) (length (s .tasks)) (view s) v)
 
 -- a promise's word is one of these; its owner is live, and who is blamed is ended
 abbrev pub promiseWordPasses : ℕ → Tables → ℕ → Bool

@@ -21,7 +21,8 @@ use lib.Dec.{eqb, leb, ltb}
 use lib.ListN.{length, getD, set}
 use Rattle.words.specs.Words.{Form, readyWord, endedWord, waitsOn, firstWait, setWord, ownedBy, firstOwned, blamedOn}
 use Rattle.words.specs.Lists.{is, places, replaced}
-use Rattle.rules.specs.Tables.{Tables, withTasks, withPromises, withWords, promiseAt, waiting, awaitedBy, ownerOf, blamedTask}
+use Rattle.rules.specs.Tables.{Tables, withTasks, withPromises, withWords, promiseAt, waiting, blamedTask}
+use Rattle.rules.specs.Chains.{View, view, awaitedBy, ownerOf}
 use Rattle.rules.specs.Sound.{Hop, ready, lost, to, hop}
 use Rattle.rules.specs.Answers.{byNumber, refusedWith, refusedAtWith}
 use Rattle.rules.specs.Refusals.{Row, first, boundsRows, tableRows, actorRows, childRows, newRows, getRows, ownRows, entryRefusal, firstBad}
@@ -97,12 +98,12 @@ walkBy false (to u) k on = on u
 -- "follow owners from p: t1 owns p, t2 owns what t1 awaits, and so on, until t or a ready task": from u, the k-th owner reached, at most n of them. 000,
 -- Algorithm 2, lines 5 to 13: the loop ends at the asker (line 7) or at a task that awaits nothing (line 10), and else goes on to the owner of what u awaits (lines 12
 -- and 13). Line 8, no owner: for p itself `got` has answered, and nobody awaits such a promise in sound tables. Line 11 has nothing to catch: a step is one undivided action.
-unfoldable pub walk : ℕ → Tables → ℕ → ℕ → ℕ → Found
-walk zero s t u k = astray
-walk (suc n) s t u k = walkBy (eqb u t) (hop s u) k (λ x. walk n s t x (suc k))
+unfoldable pub walk : ℕ → ℕ → View → ℕ → ℕ → ℕ → Found
+walk zero T s t u k = astray
+walk (suc n) T s t u k = walkBy (eqb u t) (hop T s u) k (λ x. walk n T s t x (suc k))
 
 -- "k pairs: t and p, then each next task on the way and what it awaits, up to the one that awaits a promise of t"
-unfoldable pub pairs : ℕ → Tables → ℕ → ℕ → List ℕ
+unfoldable pub pairs : ℕ → View → ℕ → ℕ → List ℕ
 pairs zero s t p = []
 pairs (suc k) s t p = t ∷ p ∷ pairs k s (ownerOf s p) (awaitedBy s (ownerOf s p))
 
@@ -110,20 +111,23 @@ pairs (suc k) s t p = t ∷ p ∷ pairs k s (ownerOf s p) (awaitedBy s (ownerOf 
 -- t now waits on p; answer waits k, the owners reached." Sound tables lead nobody astray; without the test of them such a wait is entered.
 -- 000, Algorithm 2: where the assert of line 15 fails, the mark of line 3 is cleared (line 18), so here it is never written; where it holds, t blocks (line 16), marked.
 unfoldable pub followed : Tables → ℕ → ℕ → Found → Outcome
-followed s t p (back k) = outcome (Cycle k) s (pairs k s t p)
+followed s t p (back k) = outcome (Cycle k) s (pairs k (view s) t p)
 followed s t p (free k) = outcome (Waits k) (withWait s t p) []
 followed s t p astray = outcome (Waits (length (s .tasks))) (withWait s t p) []
 
--- from p, which is owned
+-- from u, which owns p
+abbrev pub walkFrom : Tables → ℕ → ℕ → Found
+walkFrom s t u = walk (length (s .tasks)) (length (s .tasks)) (view s) t u 1
+
 abbrev pub askedOf : Tables → ℕ → ℕ → Outcome
-askedOf s t p = followed s t p (walk (length (s .tasks)) s t (ownerOf s p) 1)
+askedOf s t p = followed s t p (walkFrom s t (ownerOf (view s) p))
 
 -- "if p is set, answer value. If p is blamed on b, answer blamed b. Otherwise follow owners from p"
 unfoldable pub got : ℕ → Tables → ℕ → ℕ → ℕ → Outcome
 got B s t p w =
     cond (eqb w setWord) (outcome Value s [])
     (cond (leb B w) (outcome (Blamed (w - B)) s [])
-    (followed s t p (walk (length (s .tasks)) s t (w - firstOwned) 1)))
+    (followed s t p (walkFrom s t (w - firstOwned))))
 
 -- ---- the steps
 

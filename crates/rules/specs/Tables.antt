@@ -7,8 +7,6 @@
 --   taskAt s t, promiseAt s p the word of task t, of promise p; 0 past the table's end
 --   live w, waiting w         a task with the word w is ready or waits; it waits
 --   closed B w                a promise with the word w is set or blamed
---   awaitedBy s t             the promise that t awaits, if it waits
---   ownerOf s p               the task that owns p, if it is owned
 --   blamedTask B s p          the task that p is blamed on, if it is blamed
 --   fresh T P                 fresh tables
 -- Assumes nothing.
@@ -17,7 +15,7 @@ use mathlib.Core.List.{List, _++_}
 use mathlib.Core.Bool.{Bool, _&&_, _||_}
 use lib.Dec.{eqb, leb}
 use lib.ListN.{length, getD, set, replicate, take, drop}
-use Rattle.words.specs.Words.{Form, sizesInBounds, roomFor, readyWord, firstWait, setWord, firstOwned}
+use Rattle.words.specs.Words.{Form, sizesInBounds, roomFor, readyWord, firstWait, setWord}
 use Rattle.words.specs.Lists.{count}
 
 -- "The caller lends a task table of T words, a promise table of P words"
@@ -74,13 +72,7 @@ liveTasks s = count live (s .tasks)
 abbrev pub closed : ℕ → ℕ → Bool
 closed B w = eqb w setWord || leb B w
 
--- "16+p waits on p", "16+t owned by t", "80+t blamed on t", read back
-abbrev pub awaitedBy : Tables → ℕ → ℕ
-awaitedBy s t = taskAt s t - firstWait
-
-abbrev pub ownerOf : Tables → ℕ → ℕ
-ownerOf s p = promiseAt s p - firstOwned
-
+-- "80+t blamed on t", read back
 abbrev pub blamedTask : ℕ → Tables → ℕ → ℕ
 blamedTask B s p = promiseAt s p - B
 

@@ -10,16 +10,15 @@ ghost use Rattle.rules.specs.Tables.{tables as tablesOf, sizesFit};
 ghost use Rattle.rules.specs.Answers.{refusedAtWith};
 ghost use Rattle.rules.specs.Refusals.{first, differs, entryRefusal, firstBad};
 ghost use Rattle.rules.specs.Steps.{step-async, rows, given};
-ghost use Rattle.rules.specs.Contracts.{Takes, TakesQuietly};
+ghost use Rattle.rules.specs.Contracts.{TakesQuietly};
 use rules::Answer;
 use step_guards::actor_refusal;
-use step_guards::blamed_task;
 use step_guards::child_refusal;
+use step_guards::earlier;
 use step_guards::own_refusal;
 use table_access::at;
-use table_access::earlier;
+use table_access::number_at;
 use table_access::put;
-use table_sound::table_refusal;
 use words::PromiseWord;
 use words::TaskWord;
 
@@ -79,7 +78,7 @@ fn refused_entry(promises: &[u16], t: u16, list: &[u16], k: usize) -> Answer
     let place = k as u16;
     if e == 17 {
         let entry = at(list, k);
-        let b = blamed_task(promises, entry);
+        let b = number_at(promises, PromiseWord::FIRST_BLAMED, entry);
         return Answer::RefusedBlamedAt {
             place: place,
             blamed: b,
@@ -120,22 +119,4 @@ pub fn raw_async(tasks: &mut [u16], promises: &mut [u16], t: u16, c: u16, list: 
     let w = PromiseWord::owned_by(c);
     give(promises, w, list);
     Answer::Started
-}
-
-// The step: for tables and a report of any lengths, with any words in them, and any numbers.
-pub fn step_async(
-    tasks: &mut [u16],
-    promises: &mut [u16],
-    report: &mut [u16],
-    t: u16,
-    c: u16,
-    list: &[u16],
-) -> Answer
-    ensures { λ r. ⌜ Takes small (step-async t c (now (list .entry))) (tablesOf (now (tasks .entry)) (now (promises .entry))) (now (report .entry)) r (tablesOf (now (tasks .exit)) (now (promises .exit))) (now (report .exit)) ⌝ }
-{
-    let d = table_refusal(tasks, promises, report.len());
-    if d != 0 {
-        return Answer::Refused(d);
-    }
-    raw_async(tasks, promises, t, c, list)
 }

@@ -8,14 +8,13 @@ ghost use Rattle.words.specs.Words.{small, readyWord};
 ghost use Rattle.words.specs.Lists.{places, changed, replaced};
 ghost use Rattle.rules.specs.Tables.{tables as tablesOf, inBounds};
 ghost use Rattle.rules.specs.Steps.{step-end, awaits};
-ghost use Rattle.rules.specs.Contracts.{Takes, TakesRaw};
+ghost use Rattle.rules.specs.Contracts.{TakesRaw};
 use rules::Answer;
 use step_guards::actor_refusal;
 use table_access::at;
 use table_access::collect_word;
 use table_access::put;
 use table_access::replace_word;
-use table_sound::table_refusal;
 use words::PromiseWord;
 use words::TaskWord;
 
@@ -91,15 +90,4 @@ pub fn raw_end(tasks: &mut [u16], promises: &mut [u16], report: &mut [u16], t: u
         omitted: promise_count,
         woken: task_count,
     }
-}
-
-// The step: for tables and a report of any lengths, with any words in them, and any numbers.
-pub fn step_end(tasks: &mut [u16], promises: &mut [u16], report: &mut [u16], t: u16) -> Answer
-    ensures { λ r. ⌜ Takes small (step-end t) (tablesOf (now (tasks .entry)) (now (promises .entry))) (now (report .entry)) r (tablesOf (now (tasks .exit)) (now (promises .exit))) (now (report .exit)) ⌝ }
-{
-    let d = table_refusal(tasks, promises, report.len());
-    if d != 0 {
-        return Answer::Refused(d);
-    }
-    raw_end(tasks, promises, report, t)
 }

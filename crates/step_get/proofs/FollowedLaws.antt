@@ -11,22 +11,23 @@ use borrow.Author.Tests.{eq-eqb, ne-eqb, le-leb, lt-leb}
 use Rattle.words.specs.Words.{setWord, firstOwned, waitsOn}
 use Rattle.words.proofs.ListLaws.{over-none, over-sets}
 use Rattle.rules.specs.Tables.{Tables, withTasks}
-use Rattle.rules.specs.Steps.{Found, walk, pairs, followed, got}
+use Rattle.rules.specs.Chains.{view}
+use Rattle.rules.specs.Steps.{Found, walkFrom, pairs, followed, got}
+use Rattle.rules.proofs.Counts.{pairs-length}
 use Rattle.rules.specs.Contracts.{Gives}
 use Rattle.rules.specs.declared.Answer.{Answer}
 use Rattle.rules.specs.declared.Answer.the-variants.{Value, Blamed, Waits, Cycle}
 use Rattle.table_walks.specs.Trails.{foundRead}
 use Rattle.table_walks.specs.declared.Trail.{Trail}
 use Rattle.table_walks.specs.declared.Trail.the-variants.{Astray, Back, Free}
-use Rattle.table_walks.proofs.PairLaws.{pairs-length}
 
 module _ (s : Tables) (t p : ℕ) {rs : List ℕ} where
   module _ {r : Trail} {f : Found} (e : foundRead r ≡ f) where
-    pub followed-back : {k : ℕ} {rs′ : List ℕ} → r ≡ Back k → 2 * k ≤ length rs → rs′ ≡ sets rs 0 (pairs k s t p)
+    pub followed-back : {k : ℕ} {rs′ : List ℕ} → r ≡ Back k → 2 * k ≤ length rs → rs′ ≡ sets rs 0 (pairs k (view s) t p)
         → Gives (followed s t p f) rs (Cycle k) s rs′
     unfolding followed
     followed-back {k = k} h room w =
-        rw (← e, h) (record { answer = refl; after = refl; report = w ∙ sym (over-sets (pairs k s t p) rs (omega (arith, pairs-length s k t p))) })
+        rw (← e, h) (record { answer = refl; after = refl; report = w ∙ sym (over-sets (pairs k (view s) t p) rs (omega (arith, pairs-length k (view s) t p))) })
 
     pub followed-free : {k : ℕ} {ts′ : List ℕ} → r ≡ Free k → ts′ ≡ set (s .tasks) t (waitsOn p) → Gives (followed s t p f) rs (Waits k) (withTasks s ts′) rs
     unfolding followed
@@ -48,6 +49,6 @@ module _ (s : Tables) (t p : ℕ) {rs : List ℕ} where
     got-blamed n h = rw (ne-eqb w setWord n, le-leb B w h) (record { answer = refl; after = refl; report = sym (over-none rs) })
 
     pub got-followed : {a : Answer} {s′ : Tables} {rs′ : List ℕ} → w ≢ setWord → w < B
-        → Gives (followed s t p (walk (length (s .tasks)) s t (w - firstOwned) 1)) rs a s′ rs′ → Gives (got B s t p w) rs a s′ rs′
+        → Gives (followed s t p (walkFrom s t (w - firstOwned))) rs a s′ rs′ → Gives (got B s t p w) rs a s′ rs′
     unfolding got
     got-followed n h g = rw (ne-eqb w setWord n, lt-leb B w h) g

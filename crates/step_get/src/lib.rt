@@ -1,14 +1,13 @@
 // The step get: the value or the blame of a closed promise; otherwise owners are followed, and the task waits, or the ring that it would close is reported.
 use rules::Answer;
 use step_guards::actor_refusal;
+use step_guards::earlier;
 use step_guards::get_refusal as promise_refusal;
 use table_access::at;
-use table_access::earlier;
+use table_access::number_at;
 use table_access::put;
-use table_sound::table_refusal;
 use table_walks::Trail;
 use table_walks::follow;
-use table_walks::number_at;
 use table_walks::write_pairs;
 use words::PromiseWord;
 use words::TaskWord;
@@ -20,7 +19,7 @@ ghost use Rattle.words.specs.Words.{small, Form, waitsOn};
 ghost use Rattle.rules.specs.Tables.{tables as tablesOf, inBounds};
 ghost use Rattle.rules.specs.Refusals.{first};
 ghost use Rattle.rules.specs.Steps.{step-get, askedOf, effect, rows};
-ghost use Rattle.rules.specs.Contracts.{Gives, Takes, TakesRaw};
+ghost use Rattle.rules.specs.Contracts.{Gives, TakesRaw};
 
 // Refusals 3, 4, 5, 6 and 8.
 fn refusal(tasks: &[u16], promises: &[u16], t: u16, p: u16) -> u16
@@ -88,21 +87,4 @@ pub fn raw_get(tasks: &mut [u16], promises: &[u16], report: &mut [u16], t: u16, 
         return Answer::Refused(n);
     }
     get_made(tasks, promises, report, t, p)
-}
-
-// The step.
-pub fn step_get(
-    tasks: &mut [u16],
-    promises: &mut [u16],
-    report: &mut [u16],
-    t: u16,
-    p: u16,
-) -> Answer
-    ensures { λ r. ⌜ Takes small (step-get t p) (tablesOf (now (tasks .entry)) (now (promises .entry))) (now (report .entry)) r (tablesOf (now (tasks .exit)) (now (promises .exit))) (now (report .exit)) ⌝ }
-{
-    let n = table_refusal(tasks, promises, report.len());
-    if n != 0 {
-        return Answer::Refused(n);
-    }
-    raw_get(tasks, promises, report, t, p)
 }

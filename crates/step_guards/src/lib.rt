@@ -1,12 +1,20 @@
-// The refusals that look at one number of a step: each function returns the first that applies, and 0 where none does. They ask nothing of their caller. And the task
-// that refusal 17 tells.
+// The refusals that look at one number of a step: each function returns the first that applies, and 0 where none does. They ask
+// nothing of their caller.
 ghost use mathlib.Core.Path.{_≡_};
-ghost use Prim.Native.Nat.{_-_};
-ghost use lib.ListN.{getD};
 ghost use Rattle.words.specs.Words.{small};
-ghost use Rattle.rules.specs.Refusals.{first, actorRows, childRows, newRows, getRows, ownRows};
+ghost use Rattle.rules.specs.Refusals.{earlier as earlierOf, first, actorRows, childRows, newRows, getRows, ownRows};
 use words::PromiseWord;
 use words::TaskWord;
+
+// The first of two refusals, where 0 is none.
+pub fn earlier(a: u16, b: u16) -> u16
+    ensures { λ r. ⌜ r ≡ earlierOf a b ⌝ }
+{
+    if a == 0 {
+        return b;
+    }
+    a
+}
 
 // Refusals 3, 4 and 5: the acting task.
 pub fn actor_refusal(tasks: &[u16], t: u16) -> u16
@@ -93,19 +101,4 @@ pub fn own_refusal(promises: &[u16], t: u16, p: u16) -> u16
         return 0;
     }
     10
-}
-
-// The task that a promise is blamed on, and 0 where it is not blamed.
-pub fn blamed_task(promises: &[u16], p: u16) -> u16
-    ensures { λ r. ⌜ r ≡ getD (now (promises .entry)) p 0 - small .base ⌝ }
-{
-    let i = p as usize;
-    if promises.len() <= i {
-        return 0;
-    }
-    let w = promises[i];
-    if w < PromiseWord::FIRST_BLAMED {
-        return 0;
-    }
-    w - PromiseWord::FIRST_BLAMED
 }

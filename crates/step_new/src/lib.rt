@@ -5,13 +5,12 @@ ghost use Rattle.words.specs.Words.{small};
 ghost use Rattle.rules.specs.Tables.{tables as tablesOf, sizesFit};
 ghost use Rattle.rules.specs.Refusals.{first};
 ghost use Rattle.rules.specs.Steps.{step-new, rows};
-ghost use Rattle.rules.specs.Contracts.{Takes, TakesQuietly};
+ghost use Rattle.rules.specs.Contracts.{TakesQuietly};
 use rules::Answer;
 use step_guards::actor_refusal;
+use step_guards::earlier;
 use step_guards::new_refusal as promise_refusal;
-use table_access::earlier;
 use table_access::put;
-use table_sound::table_refusal;
 use words::PromiseWord;
 
 // Refusals 3, 4, 5, 6 and 7.
@@ -35,21 +34,4 @@ pub fn raw_new(tasks: &[u16], promises: &mut [u16], t: u16, p: u16) -> Answer
     let w = PromiseWord::owned_by(t);
     put(promises, p as usize, w);
     Answer::Made
-}
-
-// The step: for tables and a report of any lengths, with any words in them, and any numbers.
-pub fn step_new(
-    tasks: &mut [u16],
-    promises: &mut [u16],
-    report: &mut [u16],
-    t: u16,
-    p: u16,
-) -> Answer
-    ensures { λ r. ⌜ Takes small (step-new t p) (tablesOf (now (tasks .entry)) (now (promises .entry))) (now (report .entry)) r (tablesOf (now (tasks .exit)) (now (promises .exit))) (now (report .exit)) ⌝ }
-{
-    let d = table_refusal(tasks, promises, report.len());
-    if d != 0 {
-        return Answer::Refused(d);
-    }
-    raw_new(tasks, promises, t, p)
 }

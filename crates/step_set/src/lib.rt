@@ -8,16 +8,15 @@ ghost use Rattle.rules.specs.Tables.{tables as tablesOf, inBounds};
 ghost use Rattle.rules.specs.Answers.{refusedWith};
 ghost use Rattle.rules.specs.Refusals.{first};
 ghost use Rattle.rules.specs.Steps.{step-set, rows};
-ghost use Rattle.rules.specs.Contracts.{Takes, TakesRaw};
+ghost use Rattle.rules.specs.Contracts.{TakesRaw};
 use rules::Answer;
 use step_guards::actor_refusal;
-use step_guards::blamed_task;
+use step_guards::earlier;
 use step_guards::own_refusal;
 use table_access::collect_word;
-use table_access::earlier;
+use table_access::number_at;
 use table_access::put;
 use table_access::replace_word;
-use table_sound::table_refusal;
 use words::PromiseWord;
 use words::TaskWord;
 
@@ -35,7 +34,7 @@ fn refused(promises: &[u16], p: u16, r: u16) -> Answer
     ensures { λ a. ⌜ a ≡ refusedWith (getD (now (promises .entry)) p 0 - small .base) r ⌝ }
 {
     if r == 17 {
-        let b = blamed_task(promises, p);
+        let b = number_at(promises, PromiseWord::FIRST_BLAMED, p);
         return Answer::RefusedBlamed(b);
     }
     Answer::Refused(r)
@@ -62,21 +61,4 @@ pub fn raw_set(
     put(promises, p as usize, PromiseWord::SET);
     let woken = n as u16;
     Answer::Set(woken)
-}
-
-// The step: for tables and a report of any lengths, with any words in them, and any numbers.
-pub fn step_set(
-    tasks: &mut [u16],
-    promises: &mut [u16],
-    report: &mut [u16],
-    t: u16,
-    p: u16,
-) -> Answer
-    ensures { λ r. ⌜ Takes small (step-set t p) (tablesOf (now (tasks .entry)) (now (promises .entry))) (now (report .entry)) r (tablesOf (now (tasks .exit)) (now (promises .exit))) (now (report .exit)) ⌝ }
-{
-    let d = table_refusal(tasks, promises, report.len());
-    if d != 0 {
-        return Answer::Refused(d);
-    }
-    raw_set(tasks, promises, report, t, p)
 }

@@ -12,6 +12,7 @@ ghost use mathlib.Core.Bool.{true};
 ghost use lib.ListN.{length};
 ghost use Rattle.words.specs.Words.{small};
 ghost use Rattle.rules.specs.Tables.{tables as tablesOf, inBounds};
+ghost use Rattle.rules.specs.Steps.{step-new, step-set, step-get, step-async, step-end};
 ghost use Rattle.rules.specs.Contracts.{Takes, TakesRaw};
 ghost use Rattle.steps.specs.Named.{stepBy};
 
@@ -54,4 +55,65 @@ pub fn step(
         return Answer::Refused(d);
     }
     raw(tasks, promises, report, kind, t, p, list)
+}
+
+// Each step by its own name.
+pub fn step_new(
+    tasks: &mut [u16],
+    promises: &mut [u16],
+    report: &mut [u16],
+    t: u16,
+    p: u16,
+) -> Answer
+    ensures { λ r. ⌜ Takes small (step-new t p) (tablesOf (now (tasks .entry)) (now (promises .entry))) (now (report .entry)) r
+        (tablesOf (now (tasks .exit)) (now (promises .exit))) (now (report .exit)) ⌝ }
+{
+    step(tasks, promises, report, Kind::New, t, p, &[])
+}
+
+pub fn step_set(
+    tasks: &mut [u16],
+    promises: &mut [u16],
+    report: &mut [u16],
+    t: u16,
+    p: u16,
+) -> Answer
+    ensures { λ r. ⌜ Takes small (step-set t p) (tablesOf (now (tasks .entry)) (now (promises .entry))) (now (report .entry)) r
+        (tablesOf (now (tasks .exit)) (now (promises .exit))) (now (report .exit)) ⌝ }
+{
+    step(tasks, promises, report, Kind::Set, t, p, &[])
+}
+
+pub fn step_get(
+    tasks: &mut [u16],
+    promises: &mut [u16],
+    report: &mut [u16],
+    t: u16,
+    p: u16,
+) -> Answer
+    ensures { λ r. ⌜ Takes small (step-get t p) (tablesOf (now (tasks .entry)) (now (promises .entry))) (now (report .entry)) r
+        (tablesOf (now (tasks .exit)) (now (promises .exit))) (now (report .exit)) ⌝ }
+{
+    step(tasks, promises, report, Kind::Get, t, p, &[])
+}
+
+pub fn step_async(
+    tasks: &mut [u16],
+    promises: &mut [u16],
+    report: &mut [u16],
+    t: u16,
+    c: u16,
+    list: &[u16],
+) -> Answer
+    ensures { λ r. ⌜ Takes small (step-async t c (now (list .entry))) (tablesOf (now (tasks .entry)) (now (promises .entry))) (now (report .entry)) r
+        (tablesOf (now (tasks .exit)) (now (promises .exit))) (now (report .exit)) ⌝ }
+{
+    step(tasks, promises, report, Kind::Async, t, c, list)
+}
+
+pub fn step_end(tasks: &mut [u16], promises: &mut [u16], report: &mut [u16], t: u16) -> Answer
+    ensures { λ r. ⌜ Takes small (step-end t) (tablesOf (now (tasks .entry)) (now (promises .entry))) (now (report .entry)) r
+        (tablesOf (now (tasks .exit)) (now (promises .exit))) (now (report .exit)) ⌝ }
+{
+    step(tasks, promises, report, Kind::End, t, 0, &[])
 }

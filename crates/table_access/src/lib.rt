@@ -1,10 +1,9 @@
 // Reads and stores that ask nothing of their caller, and the loops that go through a table of words.
 ghost use mathlib.Core.Path.{_≡_};
-ghost use Prim.Native.Nat.{_+_, _≤_, _<_};
+ghost use Prim.Native.Nat.{_+_, _-_, _≤_, _<_};
 ghost use lib.ListN.{length, getD, set, replicate};
 ghost use lib.Seq.{sets};
 ghost use Rattle.words.specs.Lists.{is, places, changed, replaced};
-ghost use Rattle.rules.specs.Refusals.{earlier as earlierOf};
 
 // The word at an index, and 0 past the end.
 pub fn at(table: &[u16], i: usize) -> u16
@@ -16,6 +15,18 @@ pub fn at(table: &[u16], i: usize) -> u16
     0
 }
 
+// The number in the word at an index, where the words that hold one begin at `base`: what a task awaits, who owns a promise or is
+// blamed for it. 0 where there is none.
+pub fn number_at(table: &[u16], base: u16, i: u16) -> u16
+    ensures { λ r. ⌜ r ≡ getD (now (table .entry)) i 0 - base ⌝ }
+{
+    let w = at(table, i as usize);
+    if w < base {
+        return 0;
+    }
+    w - base
+}
+
 // A store; past the end it does nothing, as `set` on a list.
 pub fn put(table: &mut [u16], i: usize, w: u16)
     ensures { λ _. ⌜ now (table .exit) ≡ set (now (table .entry)) i w ⌝ }
@@ -23,16 +34,6 @@ pub fn put(table: &mut [u16], i: usize, w: u16)
     if i < table.len() {
         table[i] = w;
     }
-}
-
-// The first of two refusals, where 0 is none.
-pub fn earlier(a: u16, b: u16) -> u16
-    ensures { λ r. ⌜ r ≡ earlierOf a b ⌝ }
-{
-    if a == 0 {
-        return b;
-    }
-    a
 }
 
 // A word, or `x` in its place where it is `v`.

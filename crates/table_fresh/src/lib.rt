@@ -5,7 +5,8 @@ ghost use mathlib.Core.Path.{_≡_};
 ghost use lib.ListN.{length};
 ghost use Rattle.words.specs.Words.{small};
 ghost use Rattle.rules.specs.Tables.{tables as tablesOf};
-ghost use Rattle.rules.specs.Sessions.{freshRefusal, Freshens};
+ghost use Rattle.rules.specs.Refusals.{freshRefusal};
+ghost use Rattle.rules.specs.Contracts.{Freshens};
 
 // Refusal 1 by the sizes alone, or 0.
 pub fn fresh_refusal(tasks: usize, promises: usize) -> u16

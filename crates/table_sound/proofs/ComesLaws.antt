@@ -6,26 +6,26 @@ use mathlib.Core.Bool.{Bool, true, false, _&&_}
 use native.Mathlib.Omega.{arith}
 use native.Mathlib.Numerals.{add-one}
 use Rattle.words.specs.Lists.{allBelow}
-use Rattle.rules.specs.Tables.{Tables}
+use Rattle.rules.specs.Chains.{View}
 use Rattle.rules.specs.Sound.{ready, lost, to, hop, comes}
 
 -- n is the fuel that is left
-module _ (s : Tables) (v n : ℕ) where
-  pub comes-zero : n ≤ 0 → comes n s v ≡ false
+module _ (T : ℕ) (s : View) (v n : ℕ) where
+  pub comes-zero : n ≤ 0 → comes n T s v ≡ false
   unfolding comes
   comes-zero h = let e : n ≡ 0 = omega arith in rw e
 
-  pub comes-ready : 0 < n → hop s v ≡ ready → comes n s v ≡ true
+  pub comes-ready : 0 < n → hop T s v ≡ ready → comes n T s v ≡ true
   unfolding comes
   comes-ready h f = let e : n ≡ suc (n - 1) = omega arith in rw (e, f)
 
-  pub comes-lost : 0 < n → hop s v ≡ lost → comes n s v ≡ false
+  pub comes-lost : 0 < n → hop T s v ≡ lost → comes n T s v ≡ false
   unfolding comes
   comes-lost h f = let e : n ≡ suc (n - 1) = omega arith in rw (e, f)
 
-  pub comes-on : (u : ℕ) → 0 < n → hop s v ≡ to u → comes n s v ≡ comes (n - 1) s u
+  pub comes-on : (u : ℕ) → 0 < n → hop T s v ≡ to u → comes n T s v ≡ comes (n - 1) T s u
   unfolding comes
-  comes-on u h f = let e : suc (n - 1) ≡ n = omega arith in ap (λ (m : ℕ). comes m s v) (sym e) ∙ rw f
+  comes-on u h f = let e : suc (n - 1) ≡ n = omega arith in ap (λ (m : ℕ). comes m T s v) (sym e) ∙ rw f
 
 -- `good` says whether every number below i passes, of the n to be tested
 pub record Tested (f : ℕ → Bool) (n : ℕ) (good : Bool) (i : ℕ) : Type 0 where

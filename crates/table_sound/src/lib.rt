@@ -12,6 +12,7 @@ ghost use lib.ListN.{length, getD};
 ghost use Rattle.words.specs.Words.{small, Form, endedWord, firstOwned};
 ghost use Rattle.words.specs.Lists.{allBelow};
 ghost use Rattle.rules.specs.Tables.{tables, inBounds, live as liveWord};
+ghost use Rattle.rules.specs.Chains.{viewOf};
 ghost use Rattle.rules.specs.Sound.{hop as hopOf, hopOwner, comes as comesTo, taskPasses, promisePasses, promiseWordPasses, soundTest};
 ghost use Rattle.rules.specs.Refusals.{first, tableRows};
 ghost use Rattle.table_sound.specs.Hops.{hopRead};
@@ -46,7 +47,7 @@ fn hop_owner(count: usize, w: u16) -> Next
 
 // From task `v` to the owner of what it awaits.
 pub fn hop(tasks: &[u16], promises: &[u16], v: usize) -> Next
-    ensures { λ r. ⌜ hopRead r ≡ hopOf (tables (now (tasks .entry)) (now (promises .entry))) v ⌝ }
+    ensures { λ r. ⌜ hopRead r ≡ hopOf (length (now (tasks .entry))) (viewOf (now (tasks .entry)) (now (promises .entry))) v ⌝ }
 {
     let w = at(tasks, v);
     if w == TaskWord::READY {
@@ -61,7 +62,7 @@ pub fn hop(tasks: &[u16], promises: &[u16], v: usize) -> Next
 
 // Whether following owners from task `v` comes to a ready task.
 pub fn comes(tasks: &[u16], promises: &[u16], v: usize) -> bool
-    ensures { λ r. ⌜ r ≡ comesTo (length (now (tasks .entry))) (tables (now (tasks .entry)) (now (promises .entry))) v ⌝ }
+    ensures { λ r. ⌜ r ≡ comesTo (length (now (tasks .entry))) (length (now (tasks .entry))) (viewOf (now (tasks .entry)) (now (promises .entry))) v ⌝ }
 {
     let mut u = v;
     let mut left = tasks.len();

@@ -1,15 +1,14 @@
 // Following owners on behalf of a get: whether the way comes back to the asker, and the pairs of the ring that it closes.
-use table_access::at;
+use table_access::number_at;
 use table_access::put;
 use table_sound::Next;
 use table_sound::hop;
 use words::PromiseWord;
 use words::TaskWord;
 ghost use mathlib.Core.Path.{_≡_};
-ghost use Prim.Native.Nat.{_-_};
-ghost use lib.ListN.{length, getD};
+ghost use lib.ListN.{length};
 ghost use lib.Seq.{sets};
-ghost use Rattle.rules.specs.Tables.{tables};
+ghost use Rattle.rules.specs.Chains.{viewOf};
 ghost use Rattle.rules.specs.Steps.{walk, pairs};
 ghost use Rattle.table_walks.specs.Trails.{foundRead};
 
@@ -22,7 +21,7 @@ pub enum Trail {
 
 // Follows owners from `from`, the first reached, until `t` or a ready task.
 pub fn follow(tasks: &[u16], promises: &[u16], t: usize, from: usize) -> Trail
-    ensures { λ r. ⌜ foundRead r ≡ walk (length (now (tasks .entry))) (tables (now (tasks .entry)) (now (promises .entry))) t from 1 ⌝ }
+    ensures { λ r. ⌜ foundRead r ≡ walk (length (now (tasks .entry))) (length (now (tasks .entry))) (viewOf (now (tasks .entry)) (now (promises .entry))) t from 1 ⌝ }
 {
     let mut u = from;
     let mut k: usize = 1;
@@ -49,20 +48,9 @@ pub fn follow(tasks: &[u16], promises: &[u16], t: usize, from: usize) -> Trail
     Trail::Astray
 }
 
-// The number in the word at an index, where the words that hold one begin at `base`: what a task awaits, who owns a promise. 0 where there is none.
-pub fn number_at(table: &[u16], base: u16, i: u16) -> u16
-    ensures { λ r. ⌜ r ≡ getD (now (table .entry)) i 0 - base ⌝ }
-{
-    let w = at(table, i as usize);
-    if w < base {
-        return 0;
-    }
-    w - base
-}
-
 // Writes the pairs of a ring of `k` owners from the report's start: `t` and `p`, then each next task and what it awaits. What has no room is left out.
 pub fn write_pairs(tasks: &[u16], promises: &[u16], report: &mut [u16], k: u16, t: u16, p: u16)
-    ensures { λ _. ⌜ now (report .exit) ≡ sets (now (report .entry)) 0 (pairs k (tables (now (tasks .entry)) (now (promises .entry))) t p) ⌝ }
+    ensures { λ _. ⌜ now (report .exit) ≡ sets (now (report .entry)) 0 (pairs k (viewOf (now (tasks .entry)) (now (promises .entry))) t p) ⌝ }
 {
     let mut left = k;
     let mut a = t;

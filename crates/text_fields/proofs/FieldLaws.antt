@@ -11,7 +11,7 @@ use native.Mathlib.Numerals.{add-one}
 use borrow.Author.Tests.{eq-eqb, ne-eqb, eqb-true, lt-ltb, le-ltb}
 use lib.ListN.{length, take, drop, getD, length-drop, drop-of-length-le}
 use lib.Seq.{drop-cons, length-take-le, take-append-seam, drop-append-seam}
-use Rattle.text_fields.specs.Fields.{tab, runTo, endFrom, run, fieldEnd, fieldAt, nextStart}
+use Rattle.text_fields.specs.Fields.{tab, runTo, endFrom, runToTab, fieldEnd, fieldAt, nextStart}
 
 -- ---- runs, at a place of a line
 
@@ -32,7 +32,7 @@ module _ (stop : ℕ) (s : List ℕ) (i : ℕ) where
 
 -- the first field of a list
 abbrev pub firstField : List ℕ → List ℕ
-firstField r = take (run r) r
+firstField r = take (runToTab r) r
 
 pub runTo-most : (stop : ℕ) (s : List ℕ) → runTo stop s ≤ length s
 unfolding runTo
@@ -43,59 +43,59 @@ runTo-most stop (b ∷ s) = go (runTo-most stop s) (eqb b stop) refl
     go ih true p = rw p (omega arith)
     go ih false p = rw p (omega arith)
 
-pub run-most : (s : List ℕ) → run s ≤ length s
-run-most s = runTo-most tab s
+pub runToTab-most : (s : List ℕ) → runToTab s ≤ length s
+runToTab-most s = runTo-most tab s
 
 -- after a list without a tab the run goes on
-pub run-append : (f x : List ℕ) → run f ≡ length f → run (f ++ x) ≡ length f + run x
+pub runToTab-append : (f x : List ℕ) → runToTab f ≡ length f → runToTab (f ++ x) ≡ length f + runToTab x
 unfolding runTo
-run-append [] x h = omega arith
-run-append (b ∷ f) x h = go (eqb b tab) refl h (run-append f x)
+runToTab-append [] x h = omega arith
+runToTab-append (b ∷ f) x h = go (eqb b tab) refl h (runToTab-append f x)
   where
-    go : (z : Bool) → eqb b tab ≡ z → run (b ∷ f) ≡ suc (length f) → (run f ≡ length f → run (f ++ x) ≡ length f + run x) → run (b ∷ (f ++ x)) ≡ suc (length f) + run x
+    go : (z : Bool) → eqb b tab ≡ z → runToTab (b ∷ f) ≡ suc (length f) → (runToTab f ≡ length f → runToTab (f ++ x) ≡ length f + runToTab x) → runToTab (b ∷ (f ++ x)) ≡ suc (length f) + runToTab x
     go true p q ih = absurd (omega (arith, rw p at q))
     go false p q ih = rw p (omega (arith, ih (omega (arith, rw p at q))))
 
-pub run-tab : (x : List ℕ) → run (tab ∷ x) ≡ 0
+pub runToTab-tab : (x : List ℕ) → runToTab (tab ∷ x) ≡ 0
 unfolding runTo
-run-tab x = refl
+runToTab-tab x = refl
 
 -- a field has no tab, and after it stands a tab or the end
-pub run-firstField : (r : List ℕ) → run (firstField r) ≡ length (firstField r)
+pub runToTab-firstField : (r : List ℕ) → runToTab (firstField r) ≡ length (firstField r)
 unfolding runTo
-run-firstField [] = refl
-run-firstField (b ∷ r) = go (eqb b tab) refl (run-firstField r)
+runToTab-firstField [] = refl
+runToTab-firstField (b ∷ r) = go (eqb b tab) refl (runToTab-firstField r)
   where
-    go : (z : Bool) → eqb b tab ≡ z → run (firstField r) ≡ length (firstField r) → run (firstField (b ∷ r)) ≡ length (firstField (b ∷ r))
+    go : (z : Bool) → eqb b tab ≡ z → runToTab (firstField r) ≡ length (firstField r) → runToTab (firstField (b ∷ r)) ≡ length (firstField (b ∷ r))
     go true p ih = rw p
     go false p ih = rw (p, p) (ap suc ih)
 
-pub run-afterField : (r : List ℕ) → run (drop (run r) r) ≡ 0
+pub runToTab-afterField : (r : List ℕ) → runToTab (drop (runToTab r) r) ≡ 0
 unfolding runTo
-run-afterField [] = refl
-run-afterField (b ∷ r) = go (eqb b tab) refl (run-afterField r)
+runToTab-afterField [] = refl
+runToTab-afterField (b ∷ r) = go (eqb b tab) refl (runToTab-afterField r)
   where
-    go : (z : Bool) → eqb b tab ≡ z → run (drop (run r) r) ≡ 0 → run (drop (run (b ∷ r)) (b ∷ r)) ≡ 0
+    go : (z : Bool) → eqb b tab ≡ z → runToTab (drop (runToTab r) r) ≡ 0 → runToTab (drop (runToTab (b ∷ r)) (b ∷ r)) ≡ 0
     go true p ih = rw (p, p)
     go false p ih = rw p ih
 
-pub firstField-front : (f x : List ℕ) → run f ≡ length f → run x ≡ 0 → firstField (f ++ x) ≡ f
+pub firstField-front : (f x : List ℕ) → runToTab f ≡ length f → runToTab x ≡ 0 → firstField (f ++ x) ≡ f
 firstField-front f x h z =
-    let e : run (f ++ x) ≡ length f = omega (arith, run-append f x h) in
+    let e : runToTab (f ++ x) ≡ length f = omega (arith, runToTab-append f x h) in
     ap (λ (n : ℕ). take n (f ++ x)) e ∙ take-append-seam f x
 
-pub firstField-rest : (f x : List ℕ) → run f ≡ length f → run x ≡ 0 → drop (run (f ++ x)) (f ++ x) ≡ x
+pub firstField-rest : (f x : List ℕ) → runToTab f ≡ length f → runToTab x ≡ 0 → drop (runToTab (f ++ x)) (f ++ x) ≡ x
 firstField-rest f x h z =
-    let e : run (f ++ x) ≡ length f = omega (arith, run-append f x h) in
+    let e : runToTab (f ++ x) ≡ length f = omega (arith, runToTab-append f x h) in
     ap (λ (n : ℕ). drop n (f ++ x)) e ∙ drop-append-seam f x
 
 -- a list that has a byte and no run begins with a tab
-pub run-none : (r : List ℕ) → run r ≡ 0 → 0 < length r → (x : List ℕ) × (r ≡ tab ∷ x)
+pub runToTab-none : (r : List ℕ) → runToTab r ≡ 0 → 0 < length r → (x : List ℕ) × (r ≡ tab ∷ x)
 unfolding runTo
-run-none [] z h = absurd (omega arith)
-run-none (b ∷ r) z h = go (eqb b tab) refl z
+runToTab-none [] z h = absurd (omega arith)
+runToTab-none (b ∷ r) z h = go (eqb b tab) refl z
   where
-    go : (t : Bool) → eqb b tab ≡ t → run (b ∷ r) ≡ 0 → (x : List ℕ) × (b ∷ r ≡ tab ∷ x)
+    go : (t : Bool) → eqb b tab ≡ t → runToTab (b ∷ r) ≡ 0 → (x : List ℕ) × (b ∷ r ≡ tab ∷ x)
     go true t z = (r, ap (λ (c : ℕ). c ∷ r) (eqb-true b tab t))
     go false t z = absurd (omega (arith, rw t at z))
 
@@ -115,7 +115,7 @@ endFrom-within stop s a h = omega (arith, runTo-most stop (drop a s), length-dro
 pub fieldAt-part : (s : List ℕ) (a e : ℕ) → e ≡ fieldEnd s a → take (e - a) (drop a s) ≡ fieldAt s a
 unfolding fieldEnd endFrom fieldAt
 fieldAt-part s a e q =
-    let k : e - a ≡ run (drop a s) = omega arith in
+    let k : e - a ≡ runToTab (drop a s) = omega arith in
     ap (λ (n : ℕ). take n (drop a s)) k
 
 pub fieldAt-past : (s : List ℕ) (a : ℕ) → length s ≤ a → fieldAt s a ≡ []
@@ -125,11 +125,11 @@ fieldAt-past s a h = rw drop-of-length-le
 -- a field ends within the line, and is as long as its place says
 pub fieldEnd-within : (s : List ℕ) (a : ℕ) → a ≤ length s → fieldEnd s a ≤ length s
 unfolding fieldEnd endFrom
-fieldEnd-within s a h = omega (arith, run-most (drop a s), length-drop a s)
+fieldEnd-within s a h = omega (arith, runToTab-most (drop a s), length-drop a s)
 
 pub fieldAt-length : (s : List ℕ) (a : ℕ) → a + length (fieldAt s a) ≡ fieldEnd s a
 unfolding fieldEnd endFrom fieldAt
-fieldAt-length s a = rw (length-take-le (run (drop a s)) (drop a s) (run-most (drop a s)))
+fieldAt-length s a = rw (length-take-le (runToTab (drop a s)) (drop a s) (runToTab-most (drop a s)))
 
 pub fieldEnd-from : (s : List ℕ) (a : ℕ) → a ≤ fieldEnd s a
 unfolding fieldEnd endFrom

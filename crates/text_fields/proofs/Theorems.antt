@@ -9,30 +9,30 @@ use native.Mathlib.Omega.{arith}
 use native.Mathlib.Decide.{decLt}
 use lib.ListN.{length, take, drop, length-drop, take-append-drop, drop-of-length-le}
 use lib.Seq.{drop-drop, drop-at, take-append-seam, length-take-le}
-use Rattle.text_fields.specs.Fields.{tab, runTo, endFrom, run, fieldEnd, fieldAt, nextStart, Field}
-use Rattle.text_fields.proofs.FieldLaws.{run-append, run-firstField, run-afterField, run-none, fieldAt-length, fieldEnd-within, nextStart-is, nextStart-past}
+use Rattle.text_fields.specs.Fields.{tab, runTo, endFrom, runToTab, fieldEnd, fieldAt, nextStart, Field}
+use Rattle.text_fields.proofs.FieldLaws.{runToTab-append, runToTab-firstField, runToTab-afterField, runToTab-none, fieldAt-length, fieldEnd-within, nextStart-is, nextStart-past}
 
 -- THE FIELD'S PLACE: from `at` up to its end, no tab within, a tab or the line's end after it
 pub field-placed : (s : List ℕ) (at : ℕ) → Field s at (fieldAt s at) (fieldEnd s at)
 unfolding fieldAt fieldEnd endFrom
 field-placed s at = record {
   place = sym (fieldAt-length s at);
-  whole = sym (take-append-drop at s) ∙ ap (λ (r : List ℕ). take at s ++ r) (sym (take-append-drop (run (drop at s)) (drop at s)) ∙ ap (λ (r : List ℕ). take (run (drop at s)) (drop at s) ++ r) (drop-drop (run (drop at s)) at s));
-  no-tab = run-firstField (drop at s);
+  whole = sym (take-append-drop at s) ∙ ap (λ (r : List ℕ). take at s ++ r) (sym (take-append-drop (runToTab (drop at s)) (drop at s)) ∙ ap (λ (r : List ℕ). take (runToTab (drop at s)) (drop at s) ++ r) (drop-drop (runToTab (drop at s)) at s));
+  no-tab = runToTab-firstField (drop at s);
   after = ends (decLt (fieldEnd s at) (length s));
 }
   where
-    z : run (drop (at + run (drop at s)) s) ≡ 0
-    z = ap run (sym (drop-drop (run (drop at s)) at s)) ∙ run-afterField (drop at s)
+    z : runToTab (drop (at + runToTab (drop at s)) s) ≡ 0
+    z = ap runToTab (sym (drop-drop (runToTab (drop at s)) at s)) ∙ runToTab-afterField (drop at s)
 
     ends : Dec (fieldEnd s at < length s) → (drop (fieldEnd s at) s ≡ []) ⊎ (drop (fieldEnd s at) s ≡ tab ∷ drop (fieldEnd s at + 1) s)
     ends (no h) = inl (drop-of-length-le s {i = fieldEnd s at} (omega arith))
     ends (yes h) =
-        let (x, p) = run-none (drop (fieldEnd s at) s) z (omega (arith, length-drop (fieldEnd s at) s)) in
+        let (x, p) = runToTab-none (drop (fieldEnd s at) s) z (omega (arith, length-drop (fieldEnd s at) s)) in
         inr (p ∙ ap (λ (y : List ℕ). tab ∷ y) (sym (ap (λ (r : List ℕ). drop 1 r) p) ∙ drop-drop 1 (fieldEnd s at) s))
 
 -- and it is the only one: no other part that starts there is between two tabs
-no-run : {d : List ℕ} {y : List ℕ} → (d ≡ []) ⊎ (d ≡ tab ∷ y) → run d ≡ 0
+no-run : {d : List ℕ} {y : List ℕ} → (d ≡ []) ⊎ (d ≡ tab ∷ y) → runToTab d ≡ 0
 unfolding runTo
 no-run (inl e) = rw e
 no-run (inr e) = rw e
@@ -42,7 +42,7 @@ unfolding fieldAt fieldEnd endFrom
 field-one {s} {at} {f} {e} h p =
     let q : drop at s ≡ f ++ drop e s = ap (λ (r : List ℕ). drop at r) (p .whole) ∙ drop-at (take at s) (f ++ drop e s) at (length-take-le at s h) in
     let z = no-run (p .after) in
-    let k : run (drop at s) ≡ length f = ap run q ∙ run-append f (drop e s) (p .no-tab) ∙ omega arith in
+    let k : runToTab (drop at s) ≡ length f = ap runToTab q ∙ runToTab-append f (drop e s) (p .no-tab) ∙ omega arith in
     (sym (rw (k, q, take-append-seam)), p .place ∙ ap (λ (n : ℕ). at + n) (sym k))
 
 -- ---- the next field

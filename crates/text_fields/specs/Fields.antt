@@ -2,7 +2,7 @@
 -- the next field starts; each field is handed back as that part of the line".
 --
 --   tab                the byte between two fields
---   runTo stop s       how many bytes of s stand before its first byte `stop`, or in all; `run s` for the tab
+--   runTo stop s       how many bytes of s stand before its first byte `stop`, or in all; `runToTab s` for the tab
 --   endFrom stop s at  where the bytes from `at` on come to that byte, or to the line's end
 --   fieldEnd s at      where the field that starts at `at` ends
 --   fieldAt s at       that field, a part of s
@@ -32,15 +32,15 @@ unfoldable pub endFrom : ℕ → List ℕ → ℕ → ℕ
 endFrom stop s at = at + runTo stop (drop at s)
 
 -- up to a tab
-abbrev pub run : List ℕ → ℕ
-run s = runTo tab s
+abbrev pub runToTab : List ℕ → ℕ
+runToTab s = runTo tab s
 
 unfoldable pub fieldEnd : List ℕ → ℕ → ℕ
 fieldEnd s at = endFrom tab s at
 
 -- "each field is handed back as that part of the line"
 unfoldable pub fieldAt : List ℕ → ℕ → List ℕ
-fieldAt s at = take (run (drop at s)) (drop at s)
+fieldAt s at = take (runToTab (drop at s)) (drop at s)
 
 -- "keeps where the next field starts"
 unfoldable pub nextStart : List ℕ → ℕ → ℕ
@@ -50,5 +50,5 @@ nextStart s at = cond (ltb (length s) at) at (fieldEnd s at + 1)
 pub record Field (s : List ℕ) (at : ℕ) (f : List ℕ) (e : ℕ) : Type 0 where
   pub place : e ≡ at + length f
   pub whole : s ≡ take at s ++ (f ++ drop e s)
-  pub no-tab : run f ≡ length f
+  pub no-tab : runToTab f ≡ length f
   pub after : (drop e s ≡ []) ⊎ (drop e s ≡ tab ∷ drop (e + 1) s)

@@ -10,6 +10,7 @@ use lib.Dec.{ltb}
 use borrow.Author.Tests.{ne-eqb, le-leb, ltb-true, ltb-false}
 use lib.ListN.{length, take, drop, length-drop, take-append-drop}
 use lib.Seq.{take-add}
+use Rattle.words.proofs.BoolLaws.{true-is-not-false}
 use Rattle.text_fields.specs.Fields.{fieldEnd, fieldAt}
 use Rattle.step_kinds.specs.Kinds.{shapeOf}
 use Rattle.step_kinds.specs.declared.Kind.{Kind}
@@ -18,19 +19,18 @@ use Rattle.step_kinds.specs.declared.Shape.the-variants as H
 use Rattle.text_keywords.specs.Keywords.{keywordOf}
 use Rattle.text_keywords.specs.declared.Keyword.{Keyword}
 use Rattle.text_keywords.specs.declared.Keyword.the-variants as W
-use Rattle.text_keywords.proofs.LookupLaws.{true-not-false}
 use Rattle.text_records.specs.Records.{numberAt, withSecond, withFirst, pairAt, lastPair, ofPair, ofList, ofOne, afterKind, afterWord, recordOf}
 use Rattle.text_records.proofs.RecordLaws.{numberAt-ends}
 use Rattle.text_records.specs.declared.Numbered.{Numbered}
 use Rattle.text_records.specs.declared.Numbered.the-variants as S
-use Rattle.text_records.specs.declared.Pair.the-variants as P
-use Rattle.text_records.specs.declared.Record.{Record}
-use Rattle.text_records.specs.declared.Record.the-variants as R
+use Rattle.text_records.specs.declared.NumberPair.the-variants as P
+use Rattle.text_records.specs.declared.LineRecord.{LineRecord}
+use Rattle.text_records.specs.declared.LineRecord.the-variants as R
 use Rattle.text_lists.specs.Lists.{pastEntry, listedFrom, listOf}
 use Rattle.text_lists.specs.declared.Listed.{Listed}
 use Rattle.text_lists.specs.declared.Listed.the-variants as E
-use Rattle.text_forms.specs.declared.Form.{Form}
-use Rattle.text_forms.specs.declared.Form.the-variants as F
+use Rattle.text_forms.specs.declared.LineForm.{LineForm}
+use Rattle.text_forms.specs.declared.LineForm.the-variants as F
 use Rattle.text_forms.specs.Forms.{takesShape, takes, BadAt}
 use Rattle.text_forms.specs.Judging.{withList, ofRecord}
 use Rattle.text_forms.proofs.Parsed.{Parsed}
@@ -38,14 +38,14 @@ use Rattle.text_forms.proofs.Place.{At, end-well, tab-bad, next-well, n
 use Rattle.text_forms.proofs.First.{least, least-taken, word-well, word-bad}
 
 -- whether an answer is one of the forms
-unfoldable pub isGood : Form → Bool
+unfoldable pub isGood : LineForm → Bool
 isGood (F.Open a b) = true
 isGood (F.Step k a b n) = true
 isGood (F.Bad c) = false
 
 -- what an answer promises
-pub data Verdict (s : List ℕ) : Form → Type 0 where
-  verdict-well : (f : Form) → isGood f ≡ true → Parsed s → Verdict s f
+pub data Verdict (s : List ℕ) : LineForm → Type 0 where
+  verdict-well : (f : LineForm) → isGood f ≡ true → Parsed s → Verdict s f
   verdict-bad : (c : ℕ) → BadAt Parsed s c → Verdict s (F.Bad c)
 
 -- ---- the list of a step: any number of numbers
@@ -109,7 +109,7 @@ module _ (s : List ℕ) (e : ℕ) (ok : ℕ → Bool) (a : At Parsed s e ok) whe
     one-judged (S.Is v i) q = one-last v i q (ltb i (length s)) refl
 
   -- two numbers
-  module _ (f : ℕ → ℕ → Record) (fine : (x y : ℕ) → isGood (ofRecord s (f x y)) ≡ true)
+  module _ (f : ℕ → ℕ → LineRecord) (fine : (x y : ℕ) → isGood (ofRecord s (f x y)) ≡ true)
       (o0 : ok 0 ≡ false) (o1 : ok 1 ≡ false) (o2 : ok 2 ≡ true) (o3 : (k : ℕ) → ok (suc (suc (suc k))) ≡ false) where
     two-last : (u v i : ℕ) → At Parsed s i (λ k. ok (suc (suc k))) → (b : Bool) → ltb i (length s) ≡ b → Verdict s (ofRecord s (ofPair f (cond b (P.Bad i) (P.Is u v i))))
     unfolding ofPair ofRecord isGood
@@ -180,9 +180,9 @@ verdict s = by-word s (keywordOf (fieldAt s 0)) refl
 
 bad-is-not-good : (c : ℕ) {A : Type 0} → isGood (F.Bad c) ≡ true → A
 unfolding isGood
-bad-is-not-good c e = true-not-false (sym e)
+bad-is-not-good c e = true-is-not-false (sym e)
 
 -- so the column of a bad line is the one where it goes bad
-pub verdict-column : {s : List ℕ} {f : Form} (c : ℕ) → Verdict s f → f ≡ F.Bad c → BadAt Parsed s c
+pub verdict-column : {s : List ℕ} {f : LineForm} (c : ℕ) → Verdict s f → f ≡ F.Bad c → BadAt Parsed s c
 verdict-column {s} c (verdict-bad d b) e = let z : d ≡ c = cc in subst (BadAt Parsed s) z b
-verdict-column c (verdict-well f g p) e = bad-is-not-good c (subst (λ (h : Form). isGood h ≡ true) e g)
+verdict-column c (verdict-well f g p) e = bad-is-not-good c (subst (λ (h : LineForm). isGood h ≡ true) e g)

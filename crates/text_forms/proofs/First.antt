@@ -10,8 +10,9 @@ use native.Mathlib.Omega.{arith}
 use lib.Dec.{eqb}
 use lib.ListN.{length, take, drop, take-append-drop}
 use lib.Seq.{take-take, length-take-le}
-use Rattle.text_fields.specs.Fields.{tab, run, fieldEnd, fieldAt, runTo, endFrom}
-use Rattle.text_fields.proofs.FieldLaws.{firstField, run-most, run-afterField, firstField-front, firstField-rest}
+use Rattle.words.proofs.BoolLaws.{true-is-not-false}
+use Rattle.text_fields.specs.Fields.{tab, runToTab, fieldEnd, fieldAt, runTo, endFrom}
+use Rattle.text_fields.proofs.FieldLaws.{firstField, runToTab-most, runToTab-afterField, firstField-front, firstField-rest}
 use Rattle.text_keywords.specs.Keywords.{On, StopsAt, textOf, keywords, keywordOf}
 use Rattle.step_kinds.specs.Kinds.{shapeOf}
 use Rattle.step_kinds.specs.declared.Kind.the-variants as K
@@ -19,7 +20,6 @@ use Rattle.step_kinds.specs.declared.Shape.{Shape}
 use Rattle.step_kinds.specs.declared.Shape.the-variants as H
 use Rattle.text_keywords.specs.declared.Keyword.{Keyword}
 use Rattle.text_keywords.specs.declared.Keyword.the-variants as W
-use Rattle.text_keywords.proofs.LookupLaws.{true-not-false}
 use Rattle.text_keywords.proofs.Theorems.{open-on, step-on, proper, keywordOf-text, keywordOf-is, keywordOf-other}
 use Rattle.text_forms.specs.Forms.{takesShape, takes, BadAt}
 use Rattle.text_forms.proofs.Parsed.{Numbers, Parsed}
@@ -28,7 +28,7 @@ use Rattle.text_forms.proofs.Place.{At, zeros, numbers-tabbed}
 -- ---- the table: what a new word has to answer to
 
 -- a word has no tab, and if it takes numbers it stands in the table
-pub text-whole : (w : Keyword) → run (textOf w) ≡ length (textOf w)
+pub text-whole : (w : Keyword) → runToTab (textOf w) ≡ length (textOf w)
 unfolding textOf runTo
 text-whole W.Open = refl
 text-whole (W.Step K.New) = refl
@@ -42,7 +42,7 @@ pub in-table : (w : Keyword) (n : ℕ) → takes w n ≡ true → On w keywords
 unfolding takes
 in-table W.Open n e = open-on
 in-table (W.Step k) n e = step-on k
-in-table (W.Other k) n e = true-not-false (sym e)
+in-table (W.Other k) n e = true-is-not-false (sym e)
 
 -- each word of the table takes some number of numbers
 unfoldable pub least : Shape → ℕ
@@ -92,7 +92,7 @@ beyond k (b ∷ s) x t h e = go (eqb b tab) refl k h e (λ j g. beyond j s x (fi
 -- ---- a line whose first field is a word, and one whose first field is none
 
 -- a line's first field is its word
-pub first-field : (s : List ℕ) (w : Keyword) (rest : List ℕ) → s ≡ textOf w ++ rest → run rest ≡ 0 → firstField s ≡ textOf w
+pub first-field : (s : List ℕ) (w : Keyword) (rest : List ℕ) → s ≡ textOf w ++ rest → runToTab rest ≡ 0 → firstField s ≡ textOf w
 first-field s w rest e z = ap firstField e ∙ firstField-front (textOf w) rest (text-whole w) z
 
 parsed-field : (s : List ℕ) (f : Parsed s) → firstField s ≡ textOf (f .word)
@@ -101,31 +101,31 @@ parsed-field s f = first-field s (f .word) (f .rest) (f .text) (numbers-tabbed (
 pub word-well : (s : List ℕ) (w : Keyword) (n : ℕ) → takes w n ≡ true → keywordOf (fieldAt s 0) ≡ w → At Parsed s (fieldEnd s 0) (takes w)
 unfolding fieldEnd endFrom fieldAt
 word-well s w n t e = record {
-  within = omega (arith, run-most s);
-  tabbed = ap (λ (i : ℕ). run (drop i s)) zero-plus ∙ run-afterField s;
+  within = omega (arith, runToTab-most s);
+  tabbed = ap (λ (i : ℕ). runToTab (drop i s)) zero-plus ∙ runToTab-afterField s;
   to = λ k x o m. record { word = w; count = k; taken = o; rest = x; text = ap (λ (i : ℕ). take i s ++ x) zero-plus ∙ ap (λ (f : List ℕ). f ++ x) is; numbers = m };
   from = λ x z f. back x z f;
 }
   where
-    zero-plus : 0 + run s ≡ run s
+    zero-plus : 0 + runToTab s ≡ runToTab s
     zero-plus = omega arith
 
     is : firstField s ≡ textOf w
     is = keywordOf-is (firstField s) w (in-table w n t) e
 
-    back : (x : List ℕ) → run x ≡ 0 → Parsed (take (0 + run s) s ++ x) → (k : ℕ) × (takes w k ≡ true) × Numbers k x
+    back : (x : List ℕ) → runToTab x ≡ 0 → Parsed (take (0 + runToTab s) s ++ x) → (k : ℕ) × (takes w k ≡ true) × Numbers k x
     back x z f =
         let tabs = numbers-tabbed (f .count) (f .rest) (f .numbers) in
         let g : textOf w ++ x ≡ textOf (f .word) ++ f .rest = ap (λ (y : List ℕ). y ++ x) (sym is) ∙ ap (λ (i : ℕ). take i s ++ x) (sym zero-plus) ∙ f .text in
         let h : textOf w ≡ textOf (f .word) = sym (firstField-front (textOf w) x (text-whole w) z) ∙ first-field (textOf w ++ x) (f .word) (f .rest) g tabs in
-        let r : x ≡ f .rest = sym (firstField-rest (textOf w) x (text-whole w) z) ∙ ap (λ (y : List ℕ). drop (run y) y) g ∙ firstField-rest (textOf (f .word)) (f .rest) (text-whole (f .word)) tabs in
+        let r : x ≡ f .rest = sym (firstField-rest (textOf w) x (text-whole w) z) ∙ ap (λ (y : List ℕ). drop (runToTab y) y) g ∙ firstField-rest (textOf (f .word)) (f .rest) (text-whole (f .word)) tabs in
         let v : f .word ≡ w = sym (keywordOf-text (f .word) (in-table (f .word) (f .count) (f .taken))) ∙ ap keywordOf (sym h) ∙ keywordOf-text w (in-table w n t) in
         (f .count, subst (λ (u : Keyword). takes u (f .count) ≡ true) v (f .taken), subst (Numbers (f .count)) (sym r) (f .numbers))
 
 pub word-bad : (s : List ℕ) (k : ℕ) → keywordOf (fieldAt s 0) ≡ W.Other k → BadAt Parsed s k
 unfolding fieldAt
 word-bad s k e = record {
-  within = omega (arith, short, run-most s);
+  within = omega (arith, short, runToTab-most s);
   start = begin (st .start);
   stop = λ h x f. no f (beyond k s x (textOf (f .word)) h (parsed-field (take (suc k) s ++ x) f));
   not-one = λ f. st .none (f .word) (in-table (f .word) (f .count) (f .taken)) (parsed-field s f);
@@ -134,15 +134,15 @@ word-bad s k e = record {
     st : StopsAt (firstField s) k
     st = keywordOf-other (firstField s) k e
 
-    short : k ≤ run s
-    short = omega (arith, st .within, length-take-le (run s) s (run-most s))
+    short : k ≤ runToTab s
+    short = omega (arith, st .within, length-take-le (runToTab s) s (runToTab-most s))
 
     begin : (w : Keyword) × On w keywords × (take k (firstField s) ≡ take k (textOf w)) → (x : List ℕ) × Parsed (take k s ++ x)
     begin (w, i, q) =
         let (n, t) = all-take w i in
         let (z, m) = zeros n in
         let y : take k s ++ drop k (textOf w) ≡ textOf w =
-        ap (λ (r : List ℕ). r ++ drop k (textOf w)) (sym (take-take k (run s) s short) ∙ q) ∙ take-append-drop k (textOf w) in
+        ap (λ (r : List ℕ). r ++ drop k (textOf w)) (sym (take-take k (runToTab s) s short) ∙ q) ∙ take-append-drop k (textOf w) in
         (drop k (textOf w) ++ z, record { word = w; count = n; taken = t; rest = z; text = sym (append-assoc (take k s) (drop k (textOf w)) z) ∙ ap (λ (u : List ℕ). u ++ z) y; numbers = m })
 
     no : {y : List ℕ} (f : Parsed y) → Along s k (textOf (f .word)) → ⊥

@@ -9,11 +9,11 @@ use native.Mathlib.Omega.{arith}
 use lib.Dec.{eqb, leb, ltb}
 use borrow.Author.Tests.{ne-eqb, ltb-true, eqb-true}
 use lib.ListN.{length, take, drop}
-use Rattle.text_fields.specs.Fields.{tab, run, runTo}
+use Rattle.text_fields.specs.Fields.{tab, runToTab, runTo}
 use Rattle.text_fields.proofs.FieldLaws.{firstField, firstField-front, firstField-rest}
-use Rattle.text_numbers.specs.Numbers.{largest, digitOf, digitsFrom, afterZero, numberOf, dec}
+use Rattle.text_numbers.specs.Numbers.{largest, digitOf, digitsFrom, afterZero, numberIn, dec}
 use Rattle.text_numbers.specs.declared.Num.the-variants.{Is, Bad}
-use Rattle.text_numbers.proofs.PrintLaws.{numberOf-print, numberOf-printed}
+use Rattle.text_numbers.proofs.PrintLaws.{numberIn-print, numberIn-printed}
 
 -- ---- numbers have no tab
 
@@ -25,35 +25,35 @@ unfolding digitOf
 digit-no-tab b h e = omega (arith, rw e at h)
 
 -- what is read as a number has no tab
-digitsFrom-whole : (s : List ℕ) (v k n : ℕ) → digitsFrom v k s ≡ Is n → run s ≡ length s
+digitsFrom-whole : (s : List ℕ) (v k n : ℕ) → digitsFrom v k s ≡ Is n → runToTab s ≡ length s
 unfolding digitsFrom runTo
 digitsFrom-whole [] v k n e = refl
 digitsFrom-whole (b ∷ s) v k n e = go (ltb (digitOf b) 10) refl (leb (v * 10 + digitOf b) largest) refl e (digitsFrom-whole s (v * 10 + digitOf b) (k + 1) n)
   where
     go : (x : Bool) → ltb (digitOf b) 10 ≡ x → (y : Bool) → leb (v * 10 + digitOf b) largest ≡ y → digitsFrom v k (b ∷ s) ≡ Is n
-        → (digitsFrom (v * 10 + digitOf b) (k + 1) s ≡ Is n → run s ≡ length s) → run (b ∷ s) ≡ suc (length s)
+        → (digitsFrom (v * 10 + digitOf b) (k + 1) s ≡ Is n → runToTab s ≡ length s) → runToTab (b ∷ s) ≡ suc (length s)
     go false p y q e ih = never (sym (rw p at e))
     go true p false q e ih = never (sym (rw (p, q) at e))
     go true p true q e ih = rw (ne-eqb b 9 (digit-no-tab b (ltb-true _ _ p))) (ap suc (ih (rw (p, q) at e)))
 
-pub numberOf-whole : (s : List ℕ) (n : ℕ) → numberOf s ≡ Is n → run s ≡ length s
-unfolding numberOf afterZero runTo
+pub numberOf-whole : (s : List ℕ) (n : ℕ) → numberIn s ≡ Is n → runToTab s ≡ length s
+unfolding numberIn afterZero runTo
 numberOf-whole [] n e = never (sym e)
 numberOf-whole (b ∷ s) n e = go (eqb b 48) refl s e
   where
-    go : (x : Bool) → eqb b 48 ≡ x → (s : List ℕ) → numberOf (b ∷ s) ≡ Is n → run (b ∷ s) ≡ suc (length s)
+    go : (x : Bool) → eqb b 48 ≡ x → (s : List ℕ) → numberIn (b ∷ s) ≡ Is n → runToTab (b ∷ s) ≡ suc (length s)
     go true p [] e = rw (ne-eqb b 9 (λ (z : b ≡ 9). omega (arith, eqb-true b 48 p)))
     go true p (a ∷ s) e = never (sym (rw p at e))
     go false p s e = digitsFrom-whole (b ∷ s) 0 0 n (rw p at e)
 
-pub dec-whole : (n : ℕ) → n ≤ largest → run (dec n) ≡ length (dec n)
-dec-whole n h = numberOf-whole (dec n) n (numberOf-print n h)
+pub dec-whole : (n : ℕ) → n ≤ largest → runToTab (dec n) ≡ length (dec n)
+dec-whole n h = numberOf-whole (dec n) n (numberIn-print n h)
 
 -- a number, and a tab or the end: what stands there is told by the list
-pub dec-split : (f x y : List ℕ) (m : ℕ) → run f ≡ length f → run x ≡ 0 → m ≤ largest → run y ≡ 0 → f ++ x ≡ dec m ++ y → (f ≡ dec m) × (x ≡ y)
+pub dec-split : (f x y : List ℕ) (m : ℕ) → runToTab f ≡ length f → runToTab x ≡ 0 → m ≤ largest → runToTab y ≡ 0 → f ++ x ≡ dec m ++ y → (f ≡ dec m) × (x ≡ y)
 dec-split f x y m h z l w e = (
   sym (firstField-front f x h z) ∙ ap firstField e ∙ firstField-front (dec m) y (dec-whole m l) w,
-  sym (firstField-rest f x h z) ∙ ap (λ (r : List ℕ). drop (run r) r) e ∙ firstField-rest (dec m) y (dec-whole m l) w,
+  sym (firstField-rest f x h z) ∙ ap (λ (r : List ℕ). drop (runToTab r) r) e ∙ firstField-rest (dec m) y (dec-whole m l) w,
 )
 
 -- ---- where a number goes bad
@@ -112,8 +112,8 @@ digitsFrom-stable (b ∷ r) v k i x e = tab (eqb b 9) refl i e (λ i′. digitsF
     tab true t i e ih = never (rw t at e)
     tab false t i e ih = rw t (on t (ltb (digitOf b) 10) refl (leb (v * 10 + digitOf b) largest) refl i (rw t at e) ih)
 
-pub numberOf-stable : (r : List ℕ) (j : ℕ) (x : List ℕ) → numberOf (firstField r) ≡ Bad j → j < length r → numberOf (firstField (take (suc j) r ++ x)) ≡ Bad j
-unfolding numberOf afterZero runTo
+pub numberOf-stable : (r : List ℕ) (j : ℕ) (x : List ℕ) → numberIn (firstField r) ≡ Bad j → j < length r → numberIn (firstField (take (suc j) r ++ x)) ≡ Bad j
+unfolding numberIn afterZero runTo
 numberOf-stable [] j x e h = absurd (omega arith)
 numberOf-stable (b ∷ r) j x e h = tab (eqb b 9) refl j e
   where
@@ -128,14 +128,14 @@ numberOf-stable (b ∷ r) j x e h = tab (eqb b 9) refl j e
             let z : 1 ≡ j = cc in
             rw (← z, t)
 
-    on : (p : Bool) → eqb b 48 ≡ p → eqb b 9 ≡ false → (j : ℕ) → numberOf (b ∷ firstField r) ≡ Bad j → numberOf (b ∷ firstField (take j r ++ x)) ≡ Bad j
+    on : (p : Bool) → eqb b 48 ≡ p → eqb b 9 ≡ false → (j : ℕ) → numberIn (b ∷ firstField r) ≡ Bad j → numberIn (b ∷ firstField (take j r ++ x)) ≡ Bad j
     on true p t j e = rw p (zero-at p r j (rw p at e))
     on false p t j e =
         let z : digitsFrom 0 0 (firstField (b ∷ r)) ≡ Bad (0 + j) = rw t ((rw p at e) ∙ ap Bad (omega arith)) in
         let w : digitsFrom 0 0 (b ∷ firstField (take j r ++ x)) ≡ Bad (0 + j) = rw t at (digitsFrom-stable (b ∷ r) 0 0 j x z) in
         rw p (w ∙ ap Bad (omega arith))
 
-    tab : (t : Bool) → eqb b 9 ≡ t → (j : ℕ) → numberOf (firstField (b ∷ r)) ≡ Bad j → numberOf (firstField (b ∷ (take j r ++ x))) ≡ Bad j
+    tab : (t : Bool) → eqb b 9 ≡ t → (j : ℕ) → numberIn (firstField (b ∷ r)) ≡ Bad j → numberIn (firstField (b ∷ (take j r ++ x))) ≡ Bad j
     tab true t j e = rw t (rw t at e)
     tab false t j e = rw t (on (eqb b 48) refl t j (rw t at e))
 
@@ -149,16 +149,16 @@ pub record Start (f : List ℕ) : Type 0 where
 zero-start : Start []
 zero-start = record { number = 0; most = omega arith; more = dec 0; text = refl }
 
-is-start : (f : List ℕ) (n : ℕ) → numberOf f ≡ Is n → Start f
-is-start f n e = record { number = n; most = numberOf-printed f n e .0; more = []; text = append-nil f ∙ numberOf-printed f n e .1 }
+is-start : (f : List ℕ) (n : ℕ) → numberIn f ≡ Is n → Start f
+is-start f n e = record { number = n; most = numberIn-printed f n e .0; more = []; text = append-nil f ∙ numberIn-printed f n e .1 }
 
-pub numberOf-start : (f : List ℕ) (j : ℕ) → numberOf f ≡ Bad j → Start (take j f)
-unfolding numberOf afterZero
+pub numberOf-start : (f : List ℕ) (j : ℕ) → numberIn f ≡ Bad j → Start (take j f)
+unfolding numberIn afterZero
 numberOf-start f zero e = zero-start
 numberOf-start [] (suc j) e = zero-start
 numberOf-start (b ∷ f) (suc j) e = go (eqb b 48) refl f j e
   where
-    go : (x : Bool) → eqb b 48 ≡ x → (f : List ℕ) (j : ℕ) → numberOf (b ∷ f) ≡ Bad (suc j) → Start (b ∷ take j f)
+    go : (x : Bool) → eqb b 48 ≡ x → (f : List ℕ) (j : ℕ) → numberIn (b ∷ f) ≡ Bad (suc j) → Start (b ∷ take j f)
     go true p [] j e = never (rw p at e)
     go true p (a ∷ f) j e =
         let y = rw p at e in

@@ -11,18 +11,18 @@ use native.Mathlib.Decide.{decLt}
 use borrow.Author.Tests.{lt-ltb, le-ltb}
 use lib.ListN.{length, take, drop, length-drop, take-append-drop}
 use lib.Seq.{take-take, take-all, drop-drop, take-add, length-take-le}
-use Rattle.text_fields.specs.Fields.{run, fieldEnd, fieldAt, runTo, endFrom}
-use Rattle.text_numbers.specs.Numbers.{largest, numberOf, dec}
+use Rattle.text_fields.specs.Fields.{runToTab, fieldEnd, fieldAt, runTo, endFrom}
+use Rattle.text_numbers.specs.Numbers.{largest, numberIn, dec}
 use Rattle.text_numbers.specs.declared.Num.{Num}
 use Rattle.text_numbers.specs.declared.Num.the-variants as N
-use Rattle.text_numbers.proofs.PrintLaws.{numberOf-print, numberOf-printed}
-use Rattle.text_numbers.proofs.NumberLaws.{numberOf-bad-within}
+use Rattle.text_numbers.proofs.PrintLaws.{numberIn-print, numberIn-printed}
+use Rattle.text_numbers.proofs.NumberLaws.{numberIn-bad-within}
 use Rattle.text_records.specs.Records.{placed, numberAt}
 use Rattle.text_records.specs.declared.Numbered.{Numbered}
 use Rattle.text_records.specs.declared.Numbered.the-variants as S
 use Rattle.text_forms.specs.Forms.{BadAt}
 use Rattle.text_forms.proofs.Parsed.{Numbers}
-use Rattle.text_fields.proofs.FieldLaws.{firstField, run-most, run-tab, run-afterField, run-none, firstField-front}
+use Rattle.text_fields.proofs.FieldLaws.{firstField, runToTab-most, runToTab-tab, runToTab-afterField, runToTab-none, firstField-front}
 use Rattle.text_forms.proofs.NumberFields.{dec-whole, dec-split, numberOf-stable, Start, numberOf-start}
 
 -- ---- numbers after tabs
@@ -37,7 +37,7 @@ cons-nil {b} {x} e = let z : suc (length x) ≡ 0 = ap length e in absurd (omega
 tail-of : (b c : ℕ) (x y : List ℕ) → b ∷ x ≡ c ∷ y → x ≡ y
 tail-of b c x y e = cc
 
-pub numbers-tabbed : (k : ℕ) (x : List ℕ) → Numbers k x → run x ≡ 0
+pub numbers-tabbed : (k : ℕ) (x : List ℕ) → Numbers k x → runToTab x ≡ 0
 unfolding runTo
 numbers-tabbed zero x e = rw e
 numbers-tabbed (suc k) x (n, y, m, e, h) = rw e
@@ -51,9 +51,9 @@ no-numbers (suc k) (n, y, m, e, h) = cons-nil (sym e)
 -- The first e bytes of s begin a line of L, a field is over there, and exactly `ok` many numbers make such a beginning a line.
 pub record At (L : List ℕ → Type 0) (s : List ℕ) (e : ℕ) (ok : ℕ → Bool) : Type 0 where
   pub within : e ≤ length s
-  pub tabbed : run (drop e s) ≡ 0
+  pub tabbed : runToTab (drop e s) ≡ 0
   pub to : (k : ℕ) (x : List ℕ) → ok k ≡ true → Numbers k x → L (take e s ++ x)
-  pub from : (x : List ℕ) → run x ≡ 0 → L (take e s ++ x) → (k : ℕ) × (ok k ≡ true) × Numbers k x
+  pub from : (x : List ℕ) → runToTab x ≡ 0 → L (take e s ++ x) → (k : ℕ) × (ok k ≡ true) × Numbers k x
 
 true-false : {A : Type 0} (b : Bool) → b ≡ true → b ≡ false → A
 true-false b p q = let z : true ≡ false = sym p ∙ q in let y : _≡_ {A = ℕ} 0 1 = cc in absurd (omega arith)
@@ -84,7 +84,7 @@ module _ (L : List ℕ → Type 0) (s : List ℕ) (e : ℕ) (ok : ℕ → Bool) 
 
     cut : drop e s ≡ 9 ∷ rest
     cut =
-        let (x, p) = run-none (drop e s) (a .tabbed) (omega (arith, length-drop e s)) in
+        let (x, p) = runToTab-none (drop e s) (a .tabbed) (omega (arith, length-drop e s)) in
         p ∙ ap (λ (y : List ℕ). 9 ∷ y) (sym (drop-tail s e x p))
 
     -- the first bytes, up to n past the tab
@@ -98,7 +98,7 @@ module _ (L : List ℕ → Type 0) (s : List ℕ) (e : ℕ) (ok : ℕ → Bool) 
 
     -- a line of L that begins so has a number there
     numbered : (x : List ℕ) → L (take e s ++ 9 ∷ x) → (k : ℕ) × (ok (suc k) ≡ true) × (m : ℕ) × (y : List ℕ) × (m ≤ largest) × (x ≡ dec m ++ y) × Numbers k y
-    numbered x l = go (a .from (9 ∷ x) (run-tab x) l)
+    numbered x l = go (a .from (9 ∷ x) (runToTab-tab x) l)
       where
         go : (k : ℕ) × (ok k ≡ true) × Numbers k (9 ∷ x) → (k : ℕ) × (ok (suc k) ≡ true) × (m : ℕ) × (y : List ℕ) × (m ≤ largest) × (x ≡ dec m ++ y) × Numbers k y
         go (zero, o, n) = cons-nil n
@@ -120,29 +120,29 @@ module _ (L : List ℕ → Type 0) (s : List ℕ) (e : ℕ) (ok : ℕ → Bool) 
         step = let q : suc e ≡ e + 1 + 0 = omega arith in ap (λ (i : ℕ). take i s) q ∙ front 0
 
     -- a number, and then a place after a field
-    pub number-well : (v : ℕ) → numberOf (firstField rest) ≡ N.Is v → At L s (e + 1 + run rest) (λ k. ok (suc k))
+    pub number-well : (v : ℕ) → numberIn (firstField rest) ≡ N.Is v → At L s (e + 1 + runToTab rest) (λ k. ok (suc k))
     number-well v n = record {
-      within = omega (arith, run-most rest, length-drop (e + 1) s);
-      tabbed = ap run (sym (drop-drop (run rest) (e + 1) s)) ∙ run-afterField rest;
-      to = λ k x o m. subst L (shape x) (a .to (suc k) (9 ∷ (dec v ++ x)) o (v, x, numberOf-printed (firstField rest) v n .0, refl, m));
+      within = omega (arith, runToTab-most rest, length-drop (e + 1) s);
+      tabbed = ap runToTab (sym (drop-drop (runToTab rest) (e + 1) s)) ∙ runToTab-afterField rest;
+      to = λ k x o m. subst L (shape x) (a .to (suc k) (9 ∷ (dec v ++ x)) o (v, x, numberIn-printed (firstField rest) v n .0, refl, m));
       from = λ x z l. go x z (numbered (dec v ++ x) (subst L (sym (shape x)) l));
     }
       where
-        shape : (x : List ℕ) → take e s ++ 9 ∷ (dec v ++ x) ≡ take (e + 1 + run rest) s ++ x
+        shape : (x : List ℕ) → take e s ++ 9 ∷ (dec v ++ x) ≡ take (e + 1 + runToTab rest) s ++ x
         shape x =
-            ap (λ (f : List ℕ). take e s ++ 9 ∷ (f ++ x)) (sym (numberOf-printed (firstField rest) v n .1))
-            ∙ sym (append-assoc (take e s) (9 ∷ firstField rest) x) ∙ ap (λ (r : List ℕ). r ++ x) (sym (front (run rest)))
+            ap (λ (f : List ℕ). take e s ++ 9 ∷ (f ++ x)) (sym (numberIn-printed (firstField rest) v n .1))
+            ∙ sym (append-assoc (take e s) (9 ∷ firstField rest) x) ∙ ap (λ (r : List ℕ). r ++ x) (sym (front (runToTab rest)))
 
-        go : (x : List ℕ) → run x ≡ 0 → (k : ℕ) × (ok (suc k) ≡ true) × (m : ℕ) × (y : List ℕ) × (m ≤ largest) × (dec v ++ x ≡ dec m ++ y) × Numbers k y
+        go : (x : List ℕ) → runToTab x ≡ 0 → (k : ℕ) × (ok (suc k) ≡ true) × (m : ℕ) × (y : List ℕ) × (m ≤ largest) × (dec v ++ x ≡ dec m ++ y) × Numbers k y
             → (k : ℕ) × (ok (suc k) ≡ true) × Numbers k x
         go x z (k, o, m, y, b, q, t) =
-            let w = dec-split (dec v) x y m (dec-whole v (numberOf-printed (firstField rest) v n .0)) z b (numbers-tabbed k y t) q in
+            let w = dec-split (dec v) x y m (dec-whole v (numberIn-printed (firstField rest) v n .0)) z b (numbers-tabbed k y t) q in
             (k, o, subst (Numbers k) (sym (w .1)) t)
 
     -- a number that goes bad
-    pub number-bad : (k : ℕ) → ok (suc k) ≡ true → (j : ℕ) → numberOf (firstField rest) ≡ N.Bad j → j ≤ run rest → BadAt L s (e + 1 + j)
+    pub number-bad : (k : ℕ) → ok (suc k) ≡ true → (j : ℕ) → numberIn (firstField rest) ≡ N.Bad j → j ≤ runToTab rest → BadAt L s (e + 1 + j)
     number-bad k o j n w = record {
-      within = omega (arith, run-most rest, length-drop (e + 1) s);
+      within = omega (arith, runToTab-most rest, length-drop (e + 1) s);
       start = begin (numberOf-start (firstField rest) j n);
       stop = λ b x l.
           let p : suc (e + 1 + j) ≡ e + 1 + suc j = omega arith in
@@ -154,7 +154,7 @@ module _ (L : List ℕ → Type 0) (s : List ℕ) (e : ℕ) (ok : ℕ → Bool) 
         begin : Start (take j (firstField rest)) → (x : List ℕ) × L (take (e + 1 + j) s ++ x)
         begin b =
             let (y, z) = zeros k in
-            let f : take j (firstField rest) ≡ take j rest = take-take j (run rest) rest w in (
+            let f : take j (firstField rest) ≡ take j rest = take-take j (runToTab rest) rest w in (
               b .more ++ y,
               subst L
                   (ap (λ (r : List ℕ). take e s ++ 9 ∷ (r ++ y)) (sym (b .text))
@@ -164,49 +164,49 @@ module _ (L : List ℕ → Type 0) (s : List ℕ) (e : ℕ) (ok : ℕ → Bool) 
                   (a .to (suc k) (9 ∷ (dec (b .number) ++ y)) o (b .number, y, b .most, refl, z)),
             )
 
-        no : (r : List ℕ) → numberOf (firstField r) ≡ N.Bad j → L (take e s ++ 9 ∷ r) → ⊥
+        no : (r : List ℕ) → numberIn (firstField r) ≡ N.Bad j → L (take e s ++ 9 ∷ r) → ⊥
         no r n l =
             let (k, o, m, y, b, q, t) = numbered r l in
             let f : firstField r ≡ dec m = ap firstField q ∙ firstField-front (dec m) y (dec-whole m b) (numbers-tabbed k y t) in
-            let c : N.Is m ≡ N.Bad j = sym (numberOf-print m b) ∙ ap numberOf (sym f) ∙ n in
+            let c : N.Is m ≡ N.Bad j = sym (numberIn-print m b) ∙ ap numberIn (sym f) ∙ n in
             let z : _≡_ {A = ℕ} 0 1 = cc in
             omega arith
 
 -- ---- what the reader of one number says
 
-number-told : (s : List ℕ) (e : ℕ) (r : Numbered) → numberAt s e ≡ r → Dec (e < length s) → ((length s ≤ e) × (r ≡ S.Bad e)) ⊎ ((e < length s) × (r ≡ placed (e + 1) (fieldEnd s (e + 1)) (numberOf (fieldAt s (e + 1)))))
+number-told : (s : List ℕ) (e : ℕ) (r : Numbered) → numberAt s e ≡ r → Dec (e < length s) → ((length s ≤ e) × (r ≡ S.Bad e)) ⊎ ((e < length s) × (r ≡ placed (e + 1) (fieldEnd s (e + 1)) (numberIn (fieldAt s (e + 1)))))
 unfolding numberAt
 number-told s e r q (yes h) = inr (h, sym q ∙ rw (lt-ltb e (length s) h))
 number-told s e r q (no h) = inl (omega arith, sym q ∙ rw (le-ltb e (length s) (omega arith)))
 
-length-field : (r : List ℕ) → length (firstField r) ≡ run r
-length-field r = length-take-le (run r) r (run-most r)
+length-field : (r : List ℕ) → length (firstField r) ≡ runToTab r
+length-field r = length-take-le (runToTab r) r (runToTab-most r)
 
 module _ (L : List ℕ → Type 0) (s : List ℕ) (e : ℕ) (ok : ℕ → Bool) (a : At L s e ok) where
   pub next-well : (v n : ℕ) → numberAt s e ≡ S.Is v n → At L s n (λ k. ok (suc k))
   unfolding placed fieldEnd endFrom fieldAt
   next-well v n q = go (number-told s e (S.Is v n) q (decLt e (length s)))
     where
-      at : e < length s → (m : Num) → numberOf (firstField (drop (e + 1) s)) ≡ m → S.Is v n ≡ placed (e + 1) (e + 1 + run (drop (e + 1) s)) m → At L s n (λ k. ok (suc k))
+      at : e < length s → (m : Num) → numberIn (firstField (drop (e + 1) s)) ≡ m → S.Is v n ≡ placed (e + 1) (e + 1 + runToTab (drop (e + 1) s)) m → At L s n (λ k. ok (suc k))
       at h (N.Is w) p r =
-          let z : n ≡ e + 1 + run (drop (e + 1) s) = cc in
+          let z : n ≡ e + 1 + runToTab (drop (e + 1) s) = cc in
           subst (λ (i : ℕ). At L s i (λ k. ok (suc k))) (sym z) (number-well L s e ok a h w p)
       at h (N.Bad j) p r = let z : _≡_ {A = ℕ} 0 1 = cc in absurd (omega arith)
 
-      go : ((length s ≤ e) × (S.Is v n ≡ S.Bad e)) ⊎ ((e < length s) × (S.Is v n ≡ placed (e + 1) (fieldEnd s (e + 1)) (numberOf (fieldAt s (e + 1))))) → At L s n (λ k. ok (suc k))
+      go : ((length s ≤ e) × (S.Is v n ≡ S.Bad e)) ⊎ ((e < length s) × (S.Is v n ≡ placed (e + 1) (fieldEnd s (e + 1)) (numberIn (fieldAt s (e + 1))))) → At L s n (λ k. ok (suc k))
       go (inl (h, r)) = let z : _≡_ {A = ℕ} 0 1 = cc in absurd (omega arith)
-      go (inr (h, r)) = at h (numberOf (firstField (drop (e + 1) s))) refl r
+      go (inr (h, r)) = at h (numberIn (firstField (drop (e + 1) s))) refl r
 
   pub next-bad : (k : ℕ) → ok (suc k) ≡ true → (length s ≤ e → ok 0 ≡ false) → (c : ℕ) → numberAt s e ≡ S.Bad c → BadAt L s c
   unfolding placed fieldEnd endFrom fieldAt
   next-bad k o f c q = go (number-told s e (S.Bad c) q (decLt e (length s)))
     where
-      at : e < length s → (m : Num) → numberOf (firstField (drop (e + 1) s)) ≡ m → S.Bad c ≡ placed (e + 1) (e + 1 + run (drop (e + 1) s)) m → BadAt L s c
+      at : e < length s → (m : Num) → numberIn (firstField (drop (e + 1) s)) ≡ m → S.Bad c ≡ placed (e + 1) (e + 1 + runToTab (drop (e + 1) s)) m → BadAt L s c
       at h (N.Is w) p r = let z : _≡_ {A = ℕ} 0 1 = cc in absurd (omega arith)
       at h (N.Bad j) p r =
           let z : c ≡ e + 1 + j = cc in
-          subst (BadAt L s) (sym z) (number-bad L s e ok a h k o j p (omega (arith, length-field (drop (e + 1) s), numberOf-bad-within (firstField (drop (e + 1) s)) j p)))
+          subst (BadAt L s) (sym z) (number-bad L s e ok a h k o j p (omega (arith, length-field (drop (e + 1) s), numberIn-bad-within (firstField (drop (e + 1) s)) j p)))
 
-      go : ((length s ≤ e) × (S.Bad c ≡ S.Bad e)) ⊎ ((e < length s) × (S.Bad c ≡ placed (e + 1) (fieldEnd s (e + 1)) (numberOf (fieldAt s (e + 1))))) → BadAt L s c
+      go : ((length s ≤ e) × (S.Bad c ≡ S.Bad e)) ⊎ ((e < length s) × (S.Bad c ≡ placed (e + 1) (fieldEnd s (e + 1)) (numberIn (fieldAt s (e + 1))))) → BadAt L s c
       go (inl (h, r)) = let z : c ≡ e = cc in subst (BadAt L s) (sym z) (end-bad L s e ok a h (suc k) o (f h))
-      go (inr (h, r)) = at h (numberOf (firstField (drop (e + 1) s))) refl r
+      go (inr (h, r)) = at h (numberIn (firstField (drop (e + 1) s))) refl r

@@ -9,10 +9,11 @@ use native.Mathlib.Omega.{arith}
 use borrow.Author.Tests.{lt-ltb, le-ltb, eqb-true, leb-true}
 use lib.ListN.{length, drop, length-drop}
 use lib.Seq.{drop-drop, take-append-seam, drop-append-seam}
-use Rattle.text_fields.specs.Fields.{tab, run, fieldEnd, fieldAt, runTo, endFrom}
-use Rattle.text_fields.proofs.FieldLaws.{firstField, run-append, firstField-rest}
+use Rattle.words.proofs.BoolLaws.{true-is-not-false}
+use Rattle.text_fields.specs.Fields.{tab, runToTab, fieldEnd, fieldAt, runTo, endFrom}
+use Rattle.text_fields.proofs.FieldLaws.{firstField, runToTab-append, firstField-rest}
 use Rattle.text_numbers.specs.Numbers.{largest, dec}
-use Rattle.text_numbers.proofs.PrintLaws.{numberOf-print}
+use Rattle.text_numbers.proofs.PrintLaws.{numberIn-print}
 use Rattle.step_kinds.specs.Kinds.{shapeOf}
 use Rattle.step_kinds.specs.declared.Kind.{Kind}
 use Rattle.step_kinds.specs.declared.Shape.{Shape}
@@ -20,42 +21,41 @@ use Rattle.step_kinds.specs.declared.Shape.the-variants as H
 use Rattle.text_keywords.specs.Keywords.{textOf, keywordOf}
 use Rattle.text_keywords.specs.declared.Keyword.{Keyword}
 use Rattle.text_keywords.specs.declared.Keyword.the-variants as W
-use Rattle.text_keywords.proofs.LookupLaws.{true-not-false}
 use Rattle.text_keywords.proofs.Theorems.{keywordOf-text}
 use Rattle.text_records.specs.Records.{placed, numberAt, withSecond, withFirst, pairAt, lastPair, ofPair, ofList, ofOne, afterKind, afterWord, recordOf}
 use Rattle.text_records.specs.declared.Numbered.the-variants as S
-use Rattle.text_records.specs.declared.Pair.the-variants as P
-use Rattle.text_records.specs.declared.Record.{Record}
-use Rattle.text_records.specs.declared.Record.the-variants as R
-use Rattle.text_lists.specs.Lists.{withEntry, pastEntry, valuesFrom, listedFrom, valuesOf, listOf}
+use Rattle.text_records.specs.declared.NumberPair.the-variants as P
+use Rattle.text_records.specs.declared.LineRecord.{LineRecord}
+use Rattle.text_records.specs.declared.LineRecord.the-variants as R
+use Rattle.text_lists.specs.Lists.{withEntry, pastEntry, valuesFrom, listedFrom, listEntries, listOf}
 use Rattle.text_lists.specs.declared.Listed.the-variants as E
 use Rattle.text_writers.specs.Texts.{fieldsText, one-more}
 use Rattle.text_forms.specs.Forms.{takesShape, takes, AllSmall, Line}
-use Rattle.text_forms.specs.Judging.{wordIn, numbersBy, numbersIn, withList, ofRecord, entriesIn}
+use Rattle.text_forms.specs.Judging.{keywordIn, numbersBy, numbersIn, withList, ofRecord, entriesIn}
 use Rattle.text_forms.proofs.NumberFields.{dec-whole}
 use Rattle.text_forms.proofs.First.{text-whole, in-table, first-field}
 
 -- ---- the next field
 
-pub fields-tabbed : (ns : List ℕ) → run (fieldsText ns) ≡ 0
+pub fields-tabbed : (ns : List ℕ) → runToTab (fieldsText ns) ≡ 0
 unfolding fieldsText runTo
 fields-tabbed [] = refl
 fields-tabbed (n ∷ ns) = refl
 
 -- at e stands a number, and after it `rest`: then it is read, and its field ends where `rest` starts
-module _ (s : List ℕ) (e v : ℕ) (rest : List ℕ) (h : v ≤ largest) (z : run rest ≡ 0) (q : drop e s ≡ tab ∷ (dec v ++ rest)) where
+module _ (s : List ℕ) (e v : ℕ) (rest : List ℕ) (h : v ≤ largest) (z : runToTab rest ≡ 0) (q : drop e s ≡ tab ∷ (dec v ++ rest)) where
   there : e < length s
   there = let l : length s - e ≡ suc (length (dec v ++ rest)) = sym (length-drop e s) ∙ ap length q in omega arith
 
   behind-tab : drop (e + 1) s ≡ dec v ++ rest
   behind-tab = sym (drop-drop 1 e s) ∙ ap (λ (r : List ℕ). drop 1 r) q
 
-  runs : run (drop (e + 1) s) ≡ length (dec v)
-  runs = ap run behind-tab ∙ run-append (dec v) rest (dec-whole v h) ∙ omega arith
+  runs : runToTab (drop (e + 1) s) ≡ length (dec v)
+  runs = ap runToTab behind-tab ∙ runToTab-append (dec v) rest (dec-whole v h) ∙ omega arith
 
   pub next-read : numberAt s e ≡ S.Is v (e + 1 + length (dec v))
   unfolding numberAt fieldAt fieldEnd endFrom placed
-  next-read = rw (lt-ltb e (length s) there, runs, behind-tab, take-append-seam, numberOf-print v h)
+  next-read = rw (lt-ltb e (length s) there, runs, behind-tab, take-append-seam, numberIn-print v h)
 
   pub next-rest : drop (e + 1 + length (dec v)) s ≡ rest
   next-rest = sym (drop-drop (length (dec v)) (e + 1) s) ∙ ap (λ (r : List ℕ). drop (length (dec v)) r) behind-tab ∙ drop-append-seam (dec v) rest
@@ -89,7 +89,7 @@ module _ (s : List ℕ) where
     unfolding fieldsText
     pair-rest = next-rest s (e + 1 + length (dec a)) b (fieldsText ns) k (fields-tabbed ns) (next-rest s e a (fieldsText (b ∷ ns)) h (fields-tabbed (b ∷ ns)) q)
 
-  pub two-read : (f : ℕ → ℕ → Record) (e a b : ℕ) → a ≤ largest → b ≤ largest → drop e s ≡ fieldsText (a ∷ b ∷ []) → ofPair f (lastPair s (pairAt s e)) ≡ f a b
+  pub two-read : (f : ℕ → ℕ → LineRecord) (e a b : ℕ) → a ≤ largest → b ≤ largest → drop e s ≡ fieldsText (a ∷ b ∷ []) → ofPair f (lastPair s (pairAt s e)) ≡ f a b
   unfolding fieldsText lastPair ofPair
   two-read f e a b h k q =
       let o = over-at s (endOf e (a ∷ b ∷ [])) (pair-rest e a b [] h k q) in
@@ -121,8 +121,8 @@ pub list-read : (vs : List ℕ) → AllSmall vs → listOf (fieldsText vs) ≡ E
 unfolding listOf
 list-read vs a = listed-read (fieldsText vs) (length (fieldsText vs)) 0 0 vs (omega arith) a refl ∙ ap E.All (omega arith)
 
-pub entries-read : (vs : List ℕ) → AllSmall vs → valuesOf (fieldsText vs) ≡ vs
-unfolding valuesOf
+pub entries-read : (vs : List ℕ) → AllSmall vs → listEntries (fieldsText vs) ≡ vs
+unfolding listEntries
 entries-read vs a = values-read (fieldsText vs) (length (fieldsText vs)) 0 vs (omega arith) a refl
 
 -- ---- a line
@@ -151,25 +151,25 @@ small-tail : {n : ℕ} {ns : List ℕ} → AllSmall (n ∷ ns) → AllSmall ns
 small-tail (one-more h a) = a
 
 -- what a record's form says
-pub record Says (s : List ℕ) (r : Record) (w : Keyword) (ns : List ℕ) : Type 0 where
-  pub word : wordIn (ofRecord s r) ≡ w
+pub record Says (s : List ℕ) (r : LineRecord) (w : Keyword) (ns : List ℕ) : Type 0 where
+  pub word : keywordIn (ofRecord s r) ≡ w
   pub numbers : numbersIn (ofRecord s r) (entriesIn s r) ≡ ns
 
 module _ (s : List ℕ) (e : ℕ) (ns : List ℕ) (a : AllSmall ns) (q : drop e s ≡ fieldsText ns) where
-  two-says : (w : Keyword) (f : ℕ → ℕ → Record) → ((x y : ℕ) → Says s (f x y) w (x ∷ y ∷ [])) → length ns ≡ 2 → Says s (ofPair f (lastPair s (pairAt s e))) w ns
+  two-says : (w : Keyword) (f : ℕ → ℕ → LineRecord) → ((x y : ℕ) → Says s (f x y) w (x ∷ y ∷ [])) → length ns ≡ 2 → Says s (ofPair f (lastPair s (pairAt s e))) w ns
   two-says w f says l =
       let (x, y, p) = two-of ns l in
       let b = subst AllSmall p a in
       rw (p, two-read s f e x y (small-head b) (small-head (small-tail b)) (q ∙ ap fieldsText p)) (says x y)
 
   one-says : (k : Kind) → shapeOf k ≡ H.One → length ns ≡ 1 → Says s (ofOne k s (numberAt s e)) (W.Step k) ns
-  unfolding ofRecord wordIn numbersIn numbersBy
+  unfolding ofRecord keywordIn numbersIn numbersBy
   one-says k z l =
       let (t, p) = one-of ns l in
       rw (p, one-read s k e t (small-head (subst AllSmall p a)) (q ∙ ap fieldsText p)) (record { word = refl; numbers = rw z })
 
   list-says : (k : Kind) → shapeOf k ≡ H.List → 2 ≤ length ns → Says s (ofList k (pairAt s e)) (W.Step k) ns
-  unfolding ofList ofRecord withList wordIn numbersIn numbersBy entriesIn
+  unfolding ofList ofRecord withList keywordIn numbersIn numbersBy entriesIn
   list-says k z l =
       let (x, y, vs, p) = more-of ns l in
       let b = subst AllSmall p a in
@@ -180,16 +180,16 @@ module _ (s : List ℕ) (e : ℕ) (ns : List ℕ) (a : AllSmall ns) (q : drop e 
       (record { word = rw (d, list-read vs c); numbers = rw (d, list-read vs c, entries-read vs c, z) })
 
   by-kind : (k : Kind) (h : Shape) → shapeOf k ≡ h → takesShape h (length ns) ≡ true → Says s (afterKind s e k h) (W.Step k) ns
-  unfolding afterKind takesShape ofRecord wordIn numbersIn numbersBy entriesIn
+  unfolding afterKind takesShape ofRecord keywordIn numbersIn numbersBy entriesIn
   by-kind k H.One z t = one-says k z (eqb-true _ _ t)
   by-kind k H.Two z t = two-says (W.Step k) (R.Plain k) (λ x y. record { word = refl; numbers = rw z }) (eqb-true _ _ t)
   by-kind k H.List z t = list-says k z (leb-true _ _ t)
 
   by-word : (w : Keyword) → takes w (length ns) ≡ true → Says s (afterWord s e w) w ns
-  unfolding afterWord takes ofRecord wordIn numbersIn entriesIn
+  unfolding afterWord takes ofRecord keywordIn numbersIn entriesIn
   by-word W.Open t = two-says W.Open R.Open (λ x y. record { word = refl; numbers = refl }) (eqb-true _ _ t)
   by-word (W.Step k) t = by-kind k (shapeOf k) refl t
-  by-word (W.Other k) t = true-not-false (sym t)
+  by-word (W.Other k) t = true-is-not-false (sym t)
 
 -- THE LINE OF A WORD AND NUMBERS IS READ AS THAT WORD AND THOSE NUMBERS
 pub line-read : (w : Keyword) (ns s : List ℕ) → Line w ns s → Says s (recordOf s) w ns
@@ -197,7 +197,7 @@ unfolding recordOf fieldAt fieldEnd endFrom
 line-read w ns s l =
     let f = first-field s w (fieldsText ns) (l .text) (fields-tabbed ns) in
     let k : keywordOf (firstField s) ≡ w = ap keywordOf f ∙ keywordOf-text w (in-table w (length ns) (l .taken)) in
-    let d : drop (0 + run s) s ≡ fieldsText ns =
-    let z : 0 + run s ≡ run s = omega arith in
-    ap (λ (i : ℕ). drop i s) z ∙ ap (λ (r : List ℕ). drop (run r) r) (l .text) ∙ firstField-rest (textOf w) (fieldsText ns) (text-whole w) (fields-tabbed ns) in
-    rw k (by-word s (0 + run s) ns (l .small) d w (l .taken))
+    let d : drop (0 + runToTab s) s ≡ fieldsText ns =
+    let z : 0 + runToTab s ≡ runToTab s = omega arith in
+    ap (λ (i : ℕ). drop i s) z ∙ ap (λ (r : List ℕ). drop (runToTab r) r) (l .text) ∙ firstField-rest (textOf w) (fieldsText ns) (text-whole w) (fields-tabbed ns) in
+    rw k (by-word s (0 + runToTab s) ns (l .small) d w (l .taken))

@@ -2,7 +2,6 @@
 -- Paper: 01, "Lines", "`open T P`, `new t p`, `set t p`, `get t p`, `async t c p..`, `end t`, with a tab for each blank"; the
 -- column is that of 02, request 1.
 --
---   longestLine        the length limit
 --   takes w n          whether the word w takes n numbers
 --   AllSmall ns        each number of ns is at most 65535
 --   Line w ns s        s is the line of the word w and the numbers ns
@@ -17,6 +16,7 @@ use mathlib.Core.Bool.{Bool, true, false}
 use mathlib.Core.Path.{_≡_}
 use lib.ListN.{length, take}
 use lib.Dec.{eqb, leb}
+use Rattle.words.specs.Words.{longestLine}
 use Rattle.text_numbers.specs.Numbers.{largest}
 use Rattle.text_writers.specs.Texts.{fieldsText, Every}
 use Rattle.step_kinds.specs.Kinds.{shapeOf}
@@ -25,10 +25,6 @@ use Rattle.step_kinds.specs.declared.Shape.the-variants as H
 use Rattle.text_keywords.specs.Keywords.{textOf}
 use Rattle.text_keywords.specs.declared.Keyword.{Keyword}
 use Rattle.text_keywords.specs.declared.Keyword.the-variants as W
-
--- "or is longer than 2,048 bytes"
-abbrev pub longestLine : ℕ
-longestLine = 2048
 
 -- "p.." may stand for no number at all
 unfoldable pub takesShape : Shape → ℕ → Bool

@@ -10,25 +10,23 @@ use native.Mathlib.Omega.{arith}
 use lib.Dec.{eqb, ltb}
 use borrow.Author.Tests.{eq-eqb, eqb-true, ltb-true, ltb-false}
 use lib.ListN.{length, take}
+use Rattle.words.proofs.BoolLaws.{true-is-not-false}
 use Rattle.text_keywords.specs.declared.Keyword.{Keyword}
 use Rattle.text_keywords.specs.declared.Keyword.the-variants as W
 use Rattle.text_keywords.specs.Keywords.{On, here, later, same, common, larger, textOf, longest, lookup}
-
-pub true-not-false : {A : Type 0} → true ≡ false → A
-true-not-false e = let z : _≡_ {A = ℕ} 0 1 = cc in absurd (omega arith)
 
 -- ---- two lists alike
 
 pub same-true : (a b : List ℕ) → same a b ≡ true → a ≡ b
 unfolding same
 same-true [] [] e = refl
-same-true [] (y ∷ b) e = true-not-false (sym e)
-same-true (x ∷ a) [] e = true-not-false (sym e)
+same-true [] (y ∷ b) e = true-is-not-false (sym e)
+same-true (x ∷ a) [] e = true-is-not-false (sym e)
 same-true (x ∷ a) (y ∷ b) e = go (eqb x y) refl e (same-true a b)
   where
     go : (t : Bool) → eqb x y ≡ t → same (x ∷ a) (y ∷ b) ≡ true → (same a b ≡ true → a ≡ b) → x ∷ a ≡ y ∷ b
     go true p e ih = rw (eqb-true x y p, ih (rw p at e))
-    go false p e ih = true-not-false (sym (rw p at e))
+    go false p e ih = true-is-not-false (sym (rw p at e))
 
 pub same-refl : (a : List ℕ) → same a a ≡ true
 unfolding same

@@ -10,12 +10,13 @@ use native.Mathlib.Omega.{arith}
 use borrow.Author.Tests.{eq-eqb, ltb-true}
 use lib.Dec.{ltb}
 use lib.ListN.{length, take}
+use Rattle.words.proofs.BoolLaws.{true-is-not-false}
 use Rattle.step_kinds.specs.declared.Kind.{Kind}
 use Rattle.step_kinds.specs.declared.Kind.the-variants.{New, Set, Get, Async, End}
 use Rattle.text_keywords.specs.declared.Keyword.{Keyword}
 use Rattle.text_keywords.specs.declared.Keyword.the-variants as W
 use Rattle.text_keywords.specs.Keywords.{On, here, later, StopsAt, same, common, textOf, keywords, longest, lookup, keywordOf}
-use Rattle.text_keywords.proofs.LookupLaws.{Proper, true-not-false, same-refl, common-most, common-take, lookup-is, lookup-other, longest-most, longest-is}
+use Rattle.text_keywords.proofs.LookupLaws.{Proper, same-refl, common-most, common-take, lookup-is, lookup-other, longest-most, longest-is}
 
 -- ---- the table
 
@@ -87,7 +88,7 @@ keywordOf-other s k e =
       within = subst (λ (i : ℕ). i ≤ length s) (r .0) (most (longest-is s keywords));
       start = subst (λ (i : ℕ). (w : Keyword) × On w keywords × (take i s ≡ take i (textOf w))) (r .0) (begin (longest-is s keywords));
       stop = λ h w i q. omega (arith, r .0, longest-most s i, common-least (suc k) s (textOf w) h q);
-      none = λ w i q. true-not-false (sym (same-refl (textOf w)) ∙ ap (λ (y : List ℕ). same y (textOf w)) (sym q) ∙ r .1 w i);
+      none = λ w i q. true-is-not-false (sym (same-refl (textOf w)) ∙ ap (λ (y : List ℕ). same y (textOf w)) (sym q) ∙ r .1 w i);
     }
   where
     Found : Type 0

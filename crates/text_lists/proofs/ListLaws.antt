@@ -18,7 +18,7 @@ use Rattle.text_records.specs.declared.Numbered.{Numbered}
 use Rattle.text_records.specs.declared.Numbered.the-variants as S
 use Rattle.text_records.proofs.RecordLaws.{numberAt-ends}
 use Rattle.text_lists.specs.declared.Listed.the-variants.{All, Bad}
-use Rattle.text_lists.specs.Lists.{withEntry, valuesFrom, pastEntry, listedFrom, valuesOf, listOf, Listing}
+use Rattle.text_lists.specs.Lists.{withEntry, valuesFrom, pastEntry, listedFrom, listEntries, listOf, Listing}
 
 -- after n entries, at the place e, with `out` in the lent words that held o
 pub record At (s o out : List ℕ) (n e : ℕ) : Type 0 where
@@ -28,12 +28,12 @@ pub record At (s o out : List ℕ) (n e : ℕ) : Type 0 where
   pub count : n ≡ length seen
   pub text : out ≡ over (fitting seen o) o
   pub listed : listedFrom fuel n s e ≡ listOf s
-  pub values : seen ++ valuesFrom fuel s e ≡ valuesOf s
+  pub values : seen ++ valuesFrom fuel s e ≡ listEntries s
   pub within : e ≤ length s
   pub half : 2 * n ≤ e
 
 pub at-start : (s o : List ℕ) → At s o o 0 0
-unfolding valuesOf listOf
+unfolding listEntries listOf
 at-start s o = record { fuel = length s; enough = omega arith; seen = []; count = refl; text = sym (rw fitting-none (over-none o)); listed = refl; values = refl; within = omega arith; half = omega arith }
 
 -- the two definitions, where an entry stands, and where none does
@@ -117,7 +117,7 @@ at-size s o out n e a = ap length (a .text) ∙ over-length (fitting (a .seen) o
 -- ---- a rest that is not there
 
 pub listing-none : (o : List ℕ) → Listing [] o o (All 0)
-unfolding listOf listedFrom valuesOf valuesFrom
+unfolding listOf listedFrom listEntries valuesFrom
 listing-none o = record { answer = refl; words = sym (rw fitting-none (over-none o)) }
 
 pub listing-past : (s o : List ℕ) (at : ℕ) → length s ≤ at → Listing (drop at s) o o (All 0)
@@ -142,9 +142,9 @@ module _ (s : List ℕ) where
   most-from (suc f) e h = most-step f e (λ i l. most-from f i l) h (numberAt s e) refl (ltb e (length s)) refl
 
   -- two bytes an entry
-  pub valuesOf-most : 2 * length (valuesOf s) ≤ length s
-  unfolding valuesOf
-  valuesOf-most = omega (arith, most-from (length s) 0 (omega arith))
+  pub listEntries-most : 2 * length (listEntries s) ≤ length s
+  unfolding listEntries
+  listEntries-most = omega (arith, most-from (length s) 0 (omega arith))
 
   module _ (m : ℕ) where
     count-step : (f n e : ℕ) → ((k i : ℕ) → listedFrom f k s i ≡ All m → m ≡ k + length (valuesFrom f s i)) → (r : Numbered) → (b : Bool)
@@ -160,6 +160,6 @@ module _ (s : List ℕ) where
     count-from (suc f) n e q = count-step f n e (λ k i p. count-from f k i p) (numberAt s e) (ltb e (length s)) q
 
     -- a list that is well formed has as many entries as it says
-    pub listOf-count : listOf s ≡ All m → m ≡ length (valuesOf s)
-    unfolding listOf valuesOf
+    pub listOf-count : listOf s ≡ All m → m ≡ length (listEntries s)
+    unfolding listOf listEntries
     listOf-count q = omega (arith, count-from (length s) 0 0 q)

@@ -1,7 +1,7 @@
 -- The promise fields of async. Paper: 01, "Lines", "The promise fields of async are read from the rest of the line after the child",
 -- and "The five steps", "The list may have no entries". s is that rest: empty, or a tab and a field for each entry.
 --
---   valuesOf s         the entries, up to the first bad one
+--   listEntries s         the entries, up to the first bad one
 --   listOf s           `All n` with how many they are, or `Bad c` with the column, in s, of the first bad byte
 --   Listing s o x r    the list s was read into the lent words o: x is what they hold then, and r the answer
 -- Theorems.antt: with one word lent for two bytes of s nothing is cut.
@@ -40,8 +40,8 @@ listedFrom zero n s e = All n
 listedFrom (suc f) n s e = cond (ltb e (length s)) (pastEntry (listedFrom f (n + 1) s) (numberAt s e)) (All n)
 
 -- an entry has at least two bytes, so there are fewer than bytes
-unfoldable pub valuesOf : List ℕ → List ℕ
-valuesOf s = valuesFrom (length s) s 0
+unfoldable pub listEntries : List ℕ → List ℕ
+listEntries s = valuesFrom (length s) s 0
 
 unfoldable pub listOf : List ℕ → Listed
 listOf s = listedFrom (length s) 0 s 0
@@ -49,4 +49,4 @@ listOf s = listedFrom (length s) 0 s 0
 -- the whole outcome of reading a list
 pub record Listing (s o x : List ℕ) (r : Listed) : Type 0 where
   pub answer : r ≡ listOf s
-  pub words : x ≡ over (fitting (valuesOf s) o) o
+  pub words : x ≡ over (fitting (listEntries s) o) o

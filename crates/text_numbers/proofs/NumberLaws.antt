@@ -1,4 +1,4 @@
--- Laws of `numberOf` and `digitsFrom`, the reading half of specs/Numbers.antt: one for each way out of a step of a loop over the
+-- Laws of `numberIn` and `digitsFrom`, the reading half of specs/Numbers.antt: one for each way out of a step of a loop over the
 -- field, and that a bad byte's place lies within the field.
 -- Assumes nothing.
 use Prim.Native.Nat.{ℕ, suc, _+_, _*_, _≤_, _<_}
@@ -12,29 +12,29 @@ use borrow.Author.Tests.{eq-eqb, ne-eqb, lt-ltb, le-ltb, le-leb, lt-leb}
 use lib.ListN.{length, drop, getD, drop-of-length-le}
 use lib.Seq.{drop-cons}
 use Rattle.text_numbers.specs.declared.Num.the-variants.{Is, Bad}
-use Rattle.text_numbers.specs.Numbers.{largest, digitOf, digitsFrom, afterZero, numberOf}
+use Rattle.text_numbers.specs.Numbers.{largest, digitOf, digitsFrom, afterZero, numberIn}
 
-pub numberOf-empty : (s : List ℕ) → length s ≡ 0 → numberOf s ≡ Bad 0
-unfolding afterZero numberOf
-numberOf-empty [] h = refl
-numberOf-empty (b ∷ s) h = absurd (omega arith)
+pub numberIn-empty : (s : List ℕ) → length s ≡ 0 → numberIn s ≡ Bad 0
+unfolding afterZero numberIn
+numberIn-empty [] h = refl
+numberIn-empty (b ∷ s) h = absurd (omega arith)
 
-pub numberOf-zero : (s : List ℕ) → getD s 0 0 ≡ 48 → length s ≡ 1 → numberOf s ≡ Is 0
-unfolding afterZero numberOf
-numberOf-zero [] z h = absurd (omega arith)
-numberOf-zero (b ∷ []) z h = rw (eq-eqb _ _ z)
-numberOf-zero (b ∷ a ∷ s) z h = absurd (omega arith)
+pub numberIn-zero : (s : List ℕ) → getD s 0 0 ≡ 48 → length s ≡ 1 → numberIn s ≡ Is 0
+unfolding afterZero numberIn
+numberIn-zero [] z h = absurd (omega arith)
+numberIn-zero (b ∷ []) z h = rw (eq-eqb _ _ z)
+numberIn-zero (b ∷ a ∷ s) z h = absurd (omega arith)
 
-pub numberOf-zero-more : (s : List ℕ) → getD s 0 0 ≡ 48 → (length s ≡ 1 → ⊥) → numberOf s ≡ Bad 1
-unfolding afterZero numberOf
-numberOf-zero-more [] z h = absurd (omega arith)
-numberOf-zero-more (b ∷ []) z h = absurd (h refl)
-numberOf-zero-more (b ∷ a ∷ s) z h = rw (eq-eqb _ _ z)
+pub numberIn-zero-more : (s : List ℕ) → getD s 0 0 ≡ 48 → (length s ≡ 1 → ⊥) → numberIn s ≡ Bad 1
+unfolding afterZero numberIn
+numberIn-zero-more [] z h = absurd (omega arith)
+numberIn-zero-more (b ∷ []) z h = absurd (h refl)
+numberIn-zero-more (b ∷ a ∷ s) z h = rw (eq-eqb _ _ z)
 
-pub numberOf-start : (s : List ℕ) → (length s ≡ 0 → ⊥) → (getD s 0 0 ≡ 48 → ⊥) → numberOf s ≡ digitsFrom 0 0 s
-unfolding afterZero numberOf
-numberOf-start [] h z = absurd (h refl)
-numberOf-start (b ∷ s) h z = rw (ne-eqb _ _ z)
+pub numberIn-start : (s : List ℕ) → (length s ≡ 0 → ⊥) → (getD s 0 0 ≡ 48 → ⊥) → numberIn s ≡ digitsFrom 0 0 s
+unfolding afterZero numberIn
+numberIn-start [] h z = absurd (h refl)
+numberIn-start (b ∷ s) h z = rw (ne-eqb _ _ z)
 
 module _ (s : List ℕ) (v k i : ℕ) where
   pub digitsFrom-end : length s ≤ i → digitsFrom v k (drop i s) ≡ Is v
@@ -71,19 +71,19 @@ digitsFrom-within [] v k j e = never e
 digitsFrom-within (b ∷ s) v k j e =
     within-step b v k j s (digitsFrom-within s (v * 10 + digitOf b) (k + 1) j) (ltb (digitOf b) 10) refl (leb (v * 10 + digitOf b) largest) refl e
 
-bad-step : (b j : ℕ) (s : List ℕ) (x : Bool) → eqb b 48 ≡ x → numberOf (b ∷ s) ≡ Bad j → j ≤ suc (length s)
-unfolding numberOf afterZero
+bad-step : (b j : ℕ) (s : List ℕ) (x : Bool) → eqb b 48 ≡ x → numberIn (b ∷ s) ≡ Bad j → j ≤ suc (length s)
+unfolding numberIn afterZero
 bad-step b j [] true z e = never (rw z at e)
 bad-step b j (a ∷ s) true z e = let r = rw z at e in let q : 1 ≡ j = cc in omega arith
 bad-step b j s false z e = omega (arith, digitsFrom-within (b ∷ s) 0 0 j (rw z at e))
 
-pub numberOf-bad-within : (s : List ℕ) (j : ℕ) → numberOf s ≡ Bad j → j ≤ length s
-unfolding numberOf
-numberOf-bad-within [] j e = let q : 0 ≡ j = cc in omega arith
-numberOf-bad-within (b ∷ s) j e = bad-step b j s (eqb b 48) refl e
+pub numberIn-bad-within : (s : List ℕ) (j : ℕ) → numberIn s ≡ Bad j → j ≤ length s
+unfolding numberIn
+numberIn-bad-within [] j e = let q : 0 ≡ j = cc in omega arith
+numberIn-bad-within (b ∷ s) j e = bad-step b j s (eqb b 48) refl e
 
 -- a number has a digit
-pub numberOf-is-nonempty : (s : List ℕ) (v : ℕ) → numberOf s ≡ Is v → 0 < length s
-unfolding numberOf
-numberOf-is-nonempty [] v e = never (sym e)
-numberOf-is-nonempty (b ∷ s) v e = omega arith
+pub numberIn-is-nonempty : (s : List ℕ) (v : ℕ) → numberIn s ≡ Is v → 0 < length s
+unfolding numberIn
+numberIn-is-nonempty [] v e = never (sym e)
+numberIn-is-nonempty (b ∷ s) v e = omega arith

@@ -13,7 +13,7 @@ use lib.ListN.{length, length-append}
 use Rattle.text_buffers.specs.Buffers.{Wrote, Added}
 use Rattle.text_buffers.proofs.BufferLaws.{wrote-none, wrote-added}
 use Rattle.text_numbers.specs.declared.Num.the-variants.{Is, Bad}
-use Rattle.text_numbers.specs.Numbers.{largest, digitOf, digitsFrom, afterZero, numberOf, decWithin, dec}
+use Rattle.text_numbers.specs.Numbers.{largest, digitOf, digitsFrom, afterZero, numberIn, decWithin, dec}
 
 lim : ℕ → ℕ
 lim zero = 1
@@ -35,13 +35,13 @@ dec-more : (f n : ℕ) → 10 ≤ n → decWithin (suc f) n ≡ decWithin f (n /
 unfolding decWithin
 dec-more f n h = rw (le-ltb n 10 h)
 
-head-nonzero : (d : ℕ) (t : List ℕ) → 0 < d → numberOf ((48 + d) ∷ t) ≡ digitsFrom 0 0 ((48 + d) ∷ t)
-unfolding numberOf
+head-nonzero : (d : ℕ) (t : List ℕ) → 0 < d → numberIn ((48 + d) ∷ t) ≡ digitsFrom 0 0 ((48 + d) ∷ t)
+unfolding numberIn
 head-nonzero d t h = rw (ne-eqb (48 + d) 48 (λ e. omega arith))
 
 -- n's printed form, before any rest t, is read up to t with the value n
 abbrev Reads : ℕ → ℕ → Type 0
-Reads f n = (t : List ℕ) → 0 < n → n ≤ largest → n < lim f → (k : ℕ) × (numberOf (decWithin f n ++ t) ≡ digitsFrom n k t)
+Reads f n = (t : List ℕ) → 0 < n → n ≤ largest → n < lim f → (k : ℕ) × (numberIn (decWithin f n ++ t) ≡ digitsFrom n k t)
 
 reads-step : (f n : ℕ) → Reads f (n / 10) → Dec (n < 10) → Reads (suc f) n
 unfolding lim
@@ -59,10 +59,10 @@ unfolding lim
 reads zero n = λ t p m l. absurd (omega arith)
 reads (suc f) n = reads-step f n (reads f (n / 10)) (decLt n 10)
 
-pub numberOf-print : (n : ℕ) → n ≤ largest → numberOf (dec n) ≡ Is n
-unfolding dec lim digitsFrom numberOf afterZero decWithin
-numberOf-print zero m = refl
-numberOf-print (suc n) m =
+pub numberIn-print : (n : ℕ) → n ≤ largest → numberIn (dec n) ≡ Is n
+unfolding dec lim digitsFrom numberIn afterZero decWithin
+numberIn-print zero m = refl
+numberIn-print (suc n) m =
     let r = reads 10 (suc n) [] (omega arith) m (omega arith) in
     rw append-nil at (r .1)
 
@@ -126,19 +126,19 @@ first-step b n s true d z e =
     let r = prints s (digitOf b) (0 + 1) n nz (omega arith) (rw (d, v, o) at e) in
     (r .0, sym (ap (λ (l : List ℕ). l ++ s) (dec-one 9 (digitOf b) h ∙ ap (λ (j : ℕ). j ∷ []) (byte-of b h))) ∙ r .1)
 
-numberOf-printed-step : (b n : ℕ) (s : List ℕ) (x : Bool) → eqb b 48 ≡ x → numberOf (b ∷ s) ≡ Is n → (n ≤ largest) × (b ∷ s ≡ dec n)
-unfolding numberOf afterZero dec decWithin
-numberOf-printed-step b n s false z e = first-step b n s (ltb (digitOf b) 10) refl (eqb-false b 48 z) (rw z at e)
-numberOf-printed-step b n s true z e = zero-case s (rw z at e)
+numberIn-printed-step : (b n : ℕ) (s : List ℕ) (x : Bool) → eqb b 48 ≡ x → numberIn (b ∷ s) ≡ Is n → (n ≤ largest) × (b ∷ s ≡ dec n)
+unfolding numberIn afterZero dec decWithin
+numberIn-printed-step b n s false z e = first-step b n s (ltb (digitOf b) 10) refl (eqb-false b 48 z) (rw z at e)
+numberIn-printed-step b n s true z e = zero-case s (rw z at e)
   where
     zero-case : (s : List ℕ) → afterZero s ≡ Is n → (n ≤ largest) × (b ∷ s ≡ dec n)
     zero-case [] e = let q : 0 ≡ n = cc in (omega arith, rw (← q, eqb-true b 48 z))
     zero-case (a ∷ s) e = never e
 
-pub numberOf-printed : (s : List ℕ) (n : ℕ) → numberOf s ≡ Is n → (n ≤ largest) × (s ≡ dec n)
-unfolding numberOf
-numberOf-printed [] n e = never e
-numberOf-printed (b ∷ s) n e = numberOf-printed-step b n s (eqb b 48) refl e
+pub numberIn-printed : (s : List ℕ) (n : ℕ) → numberIn s ≡ Is n → (n ≤ largest) × (s ≡ dec n)
+unfolding numberIn
+numberIn-printed [] n e = never e
+numberIn-printed (b ∷ s) n e = numberIn-printed-step b n s (eqb b 48) refl e
 
 -- ---- the printed form, by its last digit
 

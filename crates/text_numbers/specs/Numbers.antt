@@ -2,9 +2,9 @@
 -- itself, and is at most 65535".
 --
 --   digitOf b          the value of the byte b as a digit; 10 if it is none
---   numberOf s         the number that the field s holds, or the place of its first bad byte
+--   numberIn s         the number that the field s holds, or the place of its first bad byte
 --   dec n              the printed form of n, for any n of 32 bits (line numbers go to 999999)
--- Theorems.antt: `numberOf s` is n exactly if s is `dec n` and n is at most 65535.
+-- Theorems.antt: `numberIn s` is n exactly if s is `dec n` and n is at most 65535.
 -- Assumes nothing.
 use Prim.Native.Nat.{ℕ, zero, suc, _+_, _-_, _*_, _/_, _%_}
 use mathlib.Core.List.{List, [], _∷_, _++_}
@@ -34,9 +34,9 @@ unfoldable pub afterZero : List ℕ → Num
 afterZero [] = Is 0
 afterZero (b ∷ s) = Bad 1
 
-unfoldable pub numberOf : List ℕ → Num
-numberOf [] = Bad 0
-numberOf (b ∷ s) = cond (eqb b 48) (afterZero s) (digitsFrom 0 0 (b ∷ s))
+unfoldable pub numberIn : List ℕ → Num
+numberIn [] = Bad 0
+numberIn (b ∷ s) = cond (eqb b 48) (afterZero s) (digitsFrom 0 0 (b ∷ s))
 
 -- the digits of n, the last one last; f bounds how many there are
 unfoldable pub decWithin : ℕ → ℕ → List ℕ

@@ -1,7 +1,7 @@
 // A number in a line: read from its field, and written in its digits.
 ghost use mathlib.Core.Path.{_≡_};
 ghost use Rattle.text_buffers.specs.Buffers.{Wrote};
-ghost use Rattle.text_numbers.specs.Numbers.{digitOf, numberOf, dec};
+ghost use Rattle.text_numbers.specs.Numbers.{digitOf, numberIn, dec};
 
 // What a field holds: a number; or none, and then the place in the field of the first byte with which it stops being the start of
 // one (the field's length, if only its end came too early).
@@ -25,7 +25,7 @@ fn digit(b: u8) -> u32
 
 // The number that a field holds.
 pub fn number(field: &[u8]) -> Num
-    ensures { λ r. ⌜ r ≡ numberOf (now (field .entry)) ⌝ }
+    ensures { λ r. ⌜ r ≡ numberIn (now (field .entry)) ⌝ }
 {
     if field.len() == 0 {
         return Num::Bad(0);

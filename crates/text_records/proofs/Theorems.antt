@@ -5,15 +5,15 @@ use Prim.Native.Nat.{ℕ}
 use mathlib.Core.List.{List}
 use mathlib.Core.Path.{_≡_, sym, _∙_}
 use Rattle.text_records.specs.declared.Numbered.{Numbered}
-use Rattle.text_records.specs.declared.Pair.{Pair}
-use Rattle.text_records.specs.declared.Record.{Record}
+use Rattle.text_records.specs.declared.NumberPair.{NumberPair}
+use Rattle.text_records.specs.declared.LineRecord.{LineRecord}
 use Rattle.text_records.specs.Records.{numberAt, pairAt, recordOf}
 
 pub number-at-unique : (s : List ℕ) (e : ℕ) {p q : Numbered} → p ≡ numberAt s e → q ≡ numberAt s e → p ≡ q
 number-at-unique s e p q = p ∙ sym q
 
-pub pair-at-unique : (s : List ℕ) (e : ℕ) {p q : Pair} → p ≡ pairAt s e → q ≡ pairAt s e → p ≡ q
+pub pair-at-unique : (s : List ℕ) (e : ℕ) {p q : NumberPair} → p ≡ pairAt s e → q ≡ pairAt s e → p ≡ q
 pair-at-unique s e p q = p ∙ sym q
 
-pub record-of-unique : (s : List ℕ) {p q : Record} → p ≡ recordOf s → q ≡ recordOf s → p ≡ q
+pub record-of-unique : (s : List ℕ) {p q : LineRecord} → p ≡ recordOf s → q ≡ recordOf s → p ≡ q
 record-of-unique s p q = p ∙ sym q

@@ -16,14 +16,14 @@ pub enum Numbered {
 }
 
 // Two of them, and where the second field ends.
-pub enum Pair {
+pub enum NumberPair {
     Is(u16, u16, usize),
     Bad(usize),
 }
 
 // The records. `Listing` is a step that takes a list, with where the rest of the line after its numbers starts; `Plain` one that takes none. A step of one number has 0 for
 // the other.
-pub enum Record {
+pub enum LineRecord {
     Open(u16, u16),
     Plain(Kind, u16, u16),
     Listing(Kind, u16, u16, usize),
@@ -46,79 +46,79 @@ pub fn number_at(line: &[u8], e: usize) -> Numbered
 }
 
 // The numbers in the two fields after the tab at e.
-pub fn pair_at(line: &[u8], e: usize) -> Pair
+pub fn pair_at(line: &[u8], e: usize) -> NumberPair
     ensures { λ r. ⌜ r ≡ pairAt (now (line .entry)) e ⌝ }
 {
     match number_at(line, e) {
         Numbered::Is(a, f) => match number_at(line, f) {
-            Numbered::Is(b, g) => Pair::Is(a, b, g),
-            Numbered::Bad(k) => Pair::Bad(k),
+            Numbered::Is(b, g) => NumberPair::Is(a, b, g),
+            Numbered::Bad(k) => NumberPair::Bad(k),
         },
-        Numbered::Bad(k) => Pair::Bad(k),
+        Numbered::Bad(k) => NumberPair::Bad(k),
     }
 }
 
 // The same, where the line has to end after the second.
-fn last_pair(line: &[u8], e: usize) -> Pair
+fn last_pair(line: &[u8], e: usize) -> NumberPair
     ensures { λ r. ⌜ r ≡ lastPair (now (line .entry)) (pairAt (now (line .entry)) e) ⌝ }
 {
     match pair_at(line, e) {
-        Pair::Is(a, b, f) => {
+        NumberPair::Is(a, b, f) => {
             if f < line.len() {
-                Pair::Bad(f)
+                NumberPair::Bad(f)
             } else {
-                Pair::Is(a, b, f)
+                NumberPair::Is(a, b, f)
             }
         }
-        Pair::Bad(k) => Pair::Bad(k),
+        NumberPair::Bad(k) => NumberPair::Bad(k),
     }
 }
 
 // A step of one number, where the line has to end after it.
-fn with_one(line: &[u8], e: usize, kind: Kind) -> Record
+fn with_one(line: &[u8], e: usize, kind: Kind) -> LineRecord
     ensures { λ r. ⌜ r ≡ ofOne kind (now (line .entry)) (numberAt (now (line .entry)) e) ⌝ }
 {
     match number_at(line, e) {
         Numbered::Is(a, f) => {
             if f < line.len() {
-                Record::Bad(f)
+                LineRecord::Bad(f)
             } else {
-                Record::Plain(kind, a, 0)
+                LineRecord::Plain(kind, a, 0)
             }
         }
-        Numbered::Bad(k) => Record::Bad(k),
+        Numbered::Bad(k) => LineRecord::Bad(k),
     }
 }
 
 // A step of the kind, by what the kind takes.
-fn step_after(line: &[u8], e: usize, kind: Kind) -> Record
+fn step_after(line: &[u8], e: usize, kind: Kind) -> LineRecord
     ensures { λ r. ⌜ r ≡ afterKind (now (line .entry)) e kind (shapeOf kind) ⌝ }
 {
     match shape_of(kind) {
         Shape::One => with_one(line, e, kind),
         Shape::Two => match last_pair(line, e) {
-            Pair::Is(a, b, _) => Record::Plain(kind, a, b),
-            Pair::Bad(k) => Record::Bad(k),
+            NumberPair::Is(a, b, _) => LineRecord::Plain(kind, a, b),
+            NumberPair::Bad(k) => LineRecord::Bad(k),
         },
         Shape::List => match pair_at(line, e) {
-            Pair::Is(a, b, f) => Record::Listing(kind, a, b, f),
-            Pair::Bad(k) => Record::Bad(k),
+            NumberPair::Is(a, b, f) => LineRecord::Listing(kind, a, b, f),
+            NumberPair::Bad(k) => LineRecord::Bad(k),
         },
     }
 }
 
 // The record of the line.
-pub fn record_of(line: &[u8]) -> Record
+pub fn record_of(line: &[u8]) -> LineRecord
     ensures { λ r. ⌜ r ≡ recordOf (now (line .entry)) ⌝ }
 {
     let word = text_reader::field_from(line, 0);
     let e = word.len();
     match text_keywords::keyword_of(word) {
         Keyword::Open => match last_pair(line, e) {
-            Pair::Is(a, b, _) => Record::Open(a, b),
-            Pair::Bad(k) => Record::Bad(k),
+            NumberPair::Is(a, b, _) => LineRecord::Open(a, b),
+            NumberPair::Bad(k) => LineRecord::Bad(k),
         },
         Keyword::Step(kind) => step_after(line, e, kind),
-        Keyword::Other(k) => Record::Bad(k),
+        Keyword::Other(k) => LineRecord::Bad(k),
     }
 }

@@ -8,7 +8,7 @@ use mathlib.Core.Path.{_≡_}
 use Rattle.text_buffers.specs.Buffers.{Wrote, Added}
 use Rattle.text_buffers.proofs.Theorems.{wrote-unique, added-unique}
 use Rattle.text_numbers.specs.Numbers.{dec}
-use Rattle.text_writers.specs.Texts.{fieldText, fieldsText, partOf}
+use Rattle.text_writers.specs.Texts.{fieldText, fieldsText, stretchOf}
 
 module _ {o x y : List ℕ} {r q : ℕ} where
   pub put-bytes-unique : (t : List ℕ) → Wrote t o x r → Wrote t o y q → (x ≡ y) × (r ≡ q)
@@ -20,7 +20,7 @@ module _ {o x y : List ℕ} {r q : ℕ} where
   pub put-numbers-unique : (ns : List ℕ) → Wrote (fieldsText ns) o x r → Wrote (fieldsText ns) o y q → (x ≡ y) × (r ≡ q)
   put-numbers-unique ns v w = wrote-unique v w
 
-  pub put-part-unique : (s : List ℕ) (from n : ℕ) → Wrote (fieldsText (partOf s from n)) o x r → Wrote (fieldsText (partOf s from n)) o y q → (x ≡ y) × (r ≡ q)
+  pub put-part-unique : (s : List ℕ) (from n : ℕ) → Wrote (fieldsText (stretchOf s from n)) o x r → Wrote (fieldsText (stretchOf s from n)) o y q → (x ≡ y) × (r ≡ q)
   put-part-unique s from n v w = wrote-unique v w
 
   module _ {at : ℕ} where
@@ -33,6 +33,6 @@ module _ {o x y : List ℕ} {r q : ℕ} where
     pub add-number-unique : (n : ℕ) → Added (fieldText n) o at x r → Added (fieldText n) o at y q → (x ≡ y) × (r ≡ q)
     add-number-unique n v w = added-unique v w
 
-    pub add-part-unique : (s : List ℕ) (from n : ℕ) → Added (fieldsText (partOf s from n)) o at x r → Added (fieldsText (partOf s from n)) o at y q
+    pub add-part-unique : (s : List ℕ) (from n : ℕ) → Added (fieldsText (stretchOf s from n)) o at x r → Added (fieldsText (stretchOf s from n)) o at y q
         → (x ≡ y) × (r ≡ q)
     add-part-unique s from n v w = added-unique v w

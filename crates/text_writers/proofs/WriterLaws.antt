@@ -12,7 +12,7 @@ use lib.Seq.{take-suc, take-nil}
 use Rattle.text_buffers.specs.Buffers.{Wrote, Added}
 use Rattle.text_buffers.proofs.BufferLaws.{wrote-none, wrote-added}
 use Rattle.text_numbers.proofs.PrintLaws.{dec-three, dec-five}
-use Rattle.text_writers.specs.Texts.{fieldText, fieldsText, partOf, Every, no-more, one-more}
+use Rattle.text_writers.specs.Texts.{fieldText, fieldsText, stretchOf, Every, no-more, one-more}
 
 -- ---- one more
 
@@ -37,12 +37,12 @@ fields-none o = wrote-none o
 
 -- ---- a part of the words
 
-pub partOf-none : (s : List ℕ) (from n : ℕ) → length s ≤ from → partOf s from n ≡ []
-partOf-none s from n h = rw (drop-of-length-le s h) (take-nil n)
+pub stretchOf-none : (s : List ℕ) (from n : ℕ) → length s ≤ from → stretchOf s from n ≡ []
+stretchOf-none s from n h = rw (drop-of-length-le s h) (take-nil n)
 
 -- the part as a slice
-pub partOf-slice : (s : List ℕ) (from n e : ℕ) → e ≡ from + min n (length s - from) → take (e - from) (drop from s) ≡ partOf s from n
-partOf-slice s from n e q = go n (drop from s) (e - from) (rw length-drop (omega arith))
+pub stretchOf-slice : (s : List ℕ) (from n e : ℕ) → e ≡ from + min n (length s - from) → take (e - from) (drop from s) ≡ stretchOf s from n
+stretchOf-slice s from n e q = go n (drop from s) (e - from) (rw length-drop (omega arith))
   where
     go : (n : ℕ) (t : List ℕ) (k : ℕ) → k ≡ min n (length t) → take k t ≡ take n t
     go n t k p = rw p (cut n t)
@@ -69,7 +69,7 @@ every-take zero ns a = no-more
 every-take (suc i) [] a = no-more
 every-take (suc i) (n ∷ ns) (one-more p a) = one-more p (every-take i ns a)
 
-pub every-part : {P : ℕ → Type 0} (ns : List ℕ) (from k : ℕ) → Every P ns → Every P (partOf ns from k)
+pub every-part : {P : ℕ → Type 0} (ns : List ℕ) (from k : ℕ) → Every P ns → Every P (stretchOf ns from k)
 every-part ns from k a = every-take k (drop from ns) (every-drop from ns a)
 
 -- ---- how many bytes there are

@@ -3,7 +3,7 @@
 --
 --   fieldText n        a tab, and n in its printed form
 --   fieldsText ns      one such field for each number of ns, in order
---   partOf s from n    the n words of s from the place `from` on, or as many as there are
+--   stretchOf s from n    the n words of s from the place `from` on, or as many as there are
 --   Every P ns         each number of ns has the property P
 -- Assumes nothing.
 use Prim.Native.Nat.{ℕ}
@@ -20,8 +20,8 @@ unfoldable pub fieldsText : List ℕ → List ℕ
 fieldsText [] = []
 fieldsText (n ∷ ns) = fieldText n ++ fieldsText ns
 
-abbrev pub partOf : List ℕ → ℕ → ℕ → List ℕ
-partOf s from n = take n (drop from s)
+abbrev pub stretchOf : List ℕ → ℕ → ℕ → List ℕ
+stretchOf s from n = take n (drop from s)
 
 pub data Every (P : ℕ → Type 0) : List ℕ → Type 0 where
   no-more : Every P []

@@ -5,7 +5,7 @@ ghost use mathlib.Core.Path.{_≡_};
 ghost use Prim.Native.Nat.{_+_, _-_, min};
 ghost use Rattle.text_buffers.specs.Buffers.{Wrote, Added};
 ghost use Rattle.text_numbers.specs.Numbers.{dec};
-ghost use Rattle.text_writers.specs.Texts.{fieldText, fieldsText, partOf};
+ghost use Rattle.text_writers.specs.Texts.{fieldText, fieldsText, stretchOf};
 
 // Writes a byte string, as the word of an answer.
 pub fn put_bytes(out: &mut [u8], text: &[u8]) -> usize
@@ -93,7 +93,7 @@ fn part_end(length: usize, from: usize, count: usize) -> usize
 
 // Writes `count` of the words from `from` on, or as many as there are, as numbers, each after a tab.
 pub fn put_part(out: &mut [u8], words: &[u16], from: usize, count: usize) -> usize
-    ensures { λ r. ⌜ Wrote (fieldsText (partOf (now (words .entry)) from count)) (now (out .entry)) (now (out .exit)) r ⌝ }
+    ensures { λ r. ⌜ Wrote (fieldsText (stretchOf (now (words .entry)) from count)) (now (out .entry)) (now (out .exit)) r ⌝ }
 {
     if words.len() < from {
         return 0;
@@ -104,7 +104,7 @@ pub fn put_part(out: &mut [u8], words: &[u16], from: usize, count: usize) -> usi
 
 // The same from `at` on.
 pub fn add_part(out: &mut [u8], at: usize, words: &[u16], from: usize, count: usize) -> usize
-    ensures { λ r. ⌜ Added (fieldsText (partOf (now (words .entry)) from count)) (now (out .entry)) at (now (out .exit)) r ⌝ }
+    ensures { λ r. ⌜ Added (fieldsText (stretchOf (now (words .entry)) from count)) (now (out .entry)) at (now (out .exit)) r ⌝ }
 {
     if out.len() < at {
         return at;

@@ -1,12 +1,16 @@
 -- Tests joined by "and" and "or", put together and taken apart. Assumes nothing.
 use Prim.Native.Nat.{ℕ}
-use mathlib.Core.Path.{_≡_, refl}
+use mathlib.Core.Path.{_≡_, refl, sym}
 use mathlib.Core.Logic.{_⊎_, inl, inr}
-use mathlib.Core.Bool.{Bool, true, false, cond, _&&_, _||_}
+use mathlib.Core.Bool.{Bool, true, false, cond, not, _&&_, _||_}
 use native.Mathlib.Omega.{arith}
 
-pub true-is-not-false : true ≡ false → ⊥
-true-is-not-false e = let k : _≡_ {A = ℕ} 0 1 = cc in omega arith
+pub true-is-not-false : {A : Type 0} → true ≡ false → A
+true-is-not-false e = let k : _≡_ {A = ℕ} 0 1 = cc in absurd (omega arith)
+
+pub not-is-false : (b : Bool) → not b ≡ false → b ≡ true
+not-is-false true e = refl
+not-is-false false e = sym e
 
 pub cond-true : {A : Type 0} (b : Bool) (x y : A) → b ≡ true → cond b x y ≡ x
 cond-true b x y e = rw e

@@ -3,16 +3,17 @@ use Prim.Native.Nat.{ℕ, zero, suc, _+_, _-_, _≤_, _<_}
 use mathlib.Core.Path.{_≡_, refl, sym, ap, subst, _∙_}
 use mathlib.Core.Logic.{_⊎_, inl, inr, _≢_, ⊎-elim}
 use mathlib.Core.List.{List, [], _∷_, _++_, map}
-use mathlib.Core.Bool.{Bool, true, false, cond, _&&_}
+use mathlib.Core.Bool.{Bool, true, false, cond, _&&_, _||_}
 use native.Mathlib.Omega.{arith}
 use native.Mathlib.Decide.{ℕ-discrete, decLt}
 use native.Mathlib.Numerals.{add-one}
 use native.Mathlib.Nat.{zero-add, add-zero, add-suc, suc-add, eq-or-lt-of-le, le-of-suc-le-suc}
+use lib.Dec.{eqb}
 use borrow.Author.Tests.{eq-eqb, ne-eqb, eqb-true}
 use lib.ListN.{length, getD, set, drop, length-map, List·getD-map, List·getD-eq-default, drop-of-length-le, length-append, length-drop}
 use lib.Seq.{drop-cons, sets, sets-eq, getD-set-other}
 use Rattle.words.specs.Lists.{allBelow, is, places, changed, replaced, count, over, In, top, pop, Rising, none, one, more}
-use Rattle.words.proofs.BoolLaws.{and-yes, and-split, and-false, cond-true, cond-false, true-is-not-false}
+use Rattle.words.proofs.BoolLaws.{and-yes, and-split, and-false, or-split, cond-true, cond-false, true-is-not-false}
 
 -- ---- allBelow
 
@@ -165,6 +166,15 @@ allPass f (x ∷ xs) = f x && allPass f xs
 pub in-passes : (f : ℕ → Bool) {x : ℕ} {xs : List ℕ} → allPass f xs ≡ true → In x xs → f x ≡ true
 in-passes f {x} e (top {xs = xs}) = and-split (f x) (allPass f xs) e .0
 in-passes f e (pop {y = y} {xs = xs} i) = in-passes f (and-split (f y) (allPass f xs) e .1) i
+
+-- one of a list, as a test
+abbrev pub isIn : List ℕ → ℕ → Bool
+isIn [] x = false
+isIn (y ∷ ys) x = eqb x y || isIn ys x
+
+pub isIn-true : (ys : List ℕ) (x : ℕ) → isIn ys x ≡ true → In x ys
+isIn-true [] x e = true-is-not-false (sym e)
+isIn-true (y ∷ ys) x e = ⊎-elim (λ (h : eqb x y ≡ true). subst (λ (z : ℕ). In x (z ∷ ys)) (eqb-true x y h) top) (λ h. pop (isIn-true ys x h)) (or-split (eqb x y) (isIn ys x) e)
 
 -- ---- the places are exactly those of the words that pass, rising
 

@@ -3,13 +3,14 @@
 --   unusedWord, readyWord, endedWord, waitsOn p    the words of the task table
 --   unmadeWord, setWord, ownedBy t, blamedOn B t   the words of the promise table; B is where the blamed words begin
 --   firstWait, firstOwned                          the word that waits on promise 0, the word owned by task 0
---   Form, small                                    where the blamed words begin, and the limits
+--   Form, small                                    where the blamed words begin, and the limits of a session and its lines
 --   sizesInBounds F T P                            T and P are within their bounds
 --   roomFor T P                                    the words of a report that has room for every answer
 --   mostRecords                                    the most steps of a batch
 --   lastLine                                       the largest number of a line
+--   ofLines                                        the form that lines use; longestLine, longestAnswer, lineReport and mostEntries are its
 -- Assumes nothing.
-use Prim.Native.Nat.{ℕ, _+_, _*_}
+use Prim.Native.Nat.{ℕ, _+_, _*_, _/_}
 use mathlib.Core.Bool.{Bool, _&&_}
 use lib.Dec.{leb}
 
@@ -55,17 +56,19 @@ ownedBy t = firstOwned + t
 abbrev pub blamedOn : ℕ → ℕ → ℕ
 blamedOn B t = B + t
 
--- ---- the bounds
+-- ---- the limits: all of them stand here, and as constants in src/
 
--- where the blamed words begin, the most tasks and the most promises of a session
+-- where the blamed words begin, the most tasks and the most promises of a session, and the longest line and answer line
 pub record Form : Type 0 where
   pub base : ℕ
   pub mostTasks : ℕ
   pub mostPromises : ℕ
+  pub longestLine : ℕ
+  pub longestAnswer : ℕ
 
--- "T words (1 to 64)", "P words (0 to 256)"
+-- "T words (1 to 64)", "P words (0 to 256)", "longer than 2,048 bytes", "an answer line of at least 2,048 bytes"
 abbrev pub small : Form
-small = record { base = 80; mostTasks = 64; mostPromises = 256 }
+small = record { base = 80; mostTasks = 64; mostPromises = 256; longestLine = 2048; longestAnswer = 2048 }
 
 -- "a task table of T words (1 to 64), a promise table of P words (0 to 256)"
 unfoldable pub sizesInBounds : Form → ℕ → ℕ → Bool
@@ -75,14 +78,29 @@ sizesInBounds F T P = leb 1 T && leb T (F .mostTasks) && leb P (F .mostPromises)
 abbrev pub roomFor : ℕ → ℕ → ℕ
 roomFor T P = P + 2 * T
 
--- ---- the batch
-
 -- "a lent slice of step records, at most 256"
 abbrev pub mostRecords : ℕ
 mostRecords = 256
 
--- ---- the lines
-
 -- "a line number (1 to 999999)"
 abbrev pub lastLine : ℕ
 lastLine = 999999
+
+-- ---- the limits of lines follow from the form that they use
+
+abbrev pub ofLines : Form
+ofLines = small
+
+abbrev pub longestLine : ℕ
+longestLine = ofLines .longestLine
+
+abbrev pub longestAnswer : ℕ
+longestAnswer = ofLines .longestAnswer
+
+-- "a report of exactly 384 words"
+abbrev pub lineReport : ℕ
+lineReport = roomFor (ofLines .mostTasks) (ofLines .mostPromises)
+
+-- the entries of an async's list: each has at least two bytes
+abbrev pub mostEntries : ℕ
+mostEntries = longestLine / 2

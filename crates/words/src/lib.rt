@@ -96,11 +96,17 @@ impl Limit {
 
     pub const PROMISES: usize = 256;
 
-    // The words of a report that has room for every answer: P + 2T.
-    pub const REPORT: usize = 384;
+    // The words of a report that has room for every answer.
+    pub const REPORT: usize = Limit::PROMISES + 2 * Limit::TASKS;
 
     // The records of a batch.
     pub const RECORDS: usize = 256;
+
+    // The bytes of the longest line, without its LF; also the column of a longer one.
+    pub const LINE: usize = 2048;
+
+    // The entries of the list of an async line: each has at least two bytes.
+    pub const ENTRIES: usize = Limit::LINE / 2;
 
     // The bytes of an answer line that has room for every answer.
     pub const ANSWER: usize = 2048;

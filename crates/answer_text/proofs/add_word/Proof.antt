@@ -1,7 +1,7 @@
 -- `answer_text::add_word` meets its contract: the ladder of the numbers is the definition's own.
 -- Assumes nothing.
 use borrow.Author.Tests.{ne-eqb}
-use Rattle.answer_text.specs.AnswerText.{wordIn, lookedUp}
+use Rattle.answer_text.specs.AnswerText.{wordFor, lookedUp}
 use Rattle.answer_text.proofs.AnswerLaws.{added-none}
 use borrow.Author.Needs.{needs}
 use Rattle.answer_text.proofs.add_word.Statement.{statement}
@@ -14,7 +14,7 @@ same-length : tie.Need-same-length
 same-length c = search needs
 
 returns : tie.Need-returns
-unfolding wordIn lookedUp
+unfolding wordFor lookedUp
 returns c = rw (c .before .before .before .before .if1 .taken) (c .before .before .add-refused .ensures)
 
 add-opened-requires : tie.Need-add-opened-requires
@@ -24,7 +24,7 @@ same-length-2 : tie.Need-same-length-2
 same-length-2 c = search needs
 
 returns-2 : tie.Need-returns-2
-unfolding wordIn lookedUp
+unfolding wordFor lookedUp
 returns-2 c = rw (c .before .before .before .before .before .if1 .left, c .before .before .before .before .if2 .taken) (c .before .before .add-opened .ensures)
 
 add-made-requires : tie.Need-add-made-requires
@@ -34,7 +34,7 @@ same-length-3 : tie.Need-same-length-3
 same-length-3 c = search needs
 
 returns-3 : tie.Need-returns-3
-unfolding wordIn lookedUp
+unfolding wordFor lookedUp
 returns-3 c = rw (c .before .before .before .before .before .before .if1 .left, c .before .before .before .before .if3 .taken) (c .before .before .add-made .ensures)
 
 add-set-requires : tie.Need-add-set-requires
@@ -44,7 +44,7 @@ same-length-4 : tie.Need-same-length-4
 same-length-4 c = search needs
 
 returns-4 : tie.Need-returns-4
-unfolding wordIn lookedUp
+unfolding wordFor lookedUp
 returns-4 c = rw (c .before .before .before .before .before .before .before .if1 .left, c .before .before .before .before .if4 .taken) (c .before .before .add-set .ensures)
 
 add-value-requires : tie.Need-add-value-requires
@@ -54,7 +54,7 @@ same-length-5 : tie.Need-same-length-5
 same-length-5 c = search needs
 
 returns-5 : tie.Need-returns-5
-unfolding wordIn lookedUp
+unfolding wordFor lookedUp
 returns-5 c = rw (c .before .before .before .before .before .before .before .before .if1 .left, c .before .before .before .before .if5 .taken) (c .before .before .add-value .ensures)
 
 add-blamed-requires : tie.Need-add-blamed-requires
@@ -64,7 +64,7 @@ same-length-6 : tie.Need-same-length-6
 same-length-6 c = search needs
 
 returns-6 : tie.Need-returns-6
-unfolding wordIn lookedUp
+unfolding wordFor lookedUp
 returns-6 c = rw (c .before .before .before .before .before .before .before .before .before .if1 .left, c .before .before .before .before .if6 .taken) (c .before .before .add-blamed .ensures)
 
 add-waits-requires : tie.Need-add-waits-requires
@@ -74,7 +74,7 @@ same-length-7 : tie.Need-same-length-7
 same-length-7 c = search needs
 
 returns-7 : tie.Need-returns-7
-unfolding wordIn lookedUp
+unfolding wordFor lookedUp
 returns-7 c = rw (c .before .before .before .before .before .before .before .before .before .before .if1 .left, c .before .before .before .before .if7 .taken) (c .before .before .add-waits .ensures)
 
 add-cycle-requires : tie.Need-add-cycle-requires
@@ -84,7 +84,7 @@ same-length-8 : tie.Need-same-length-8
 same-length-8 c = search needs
 
 returns-8 : tie.Need-returns-8
-unfolding wordIn lookedUp
+unfolding wordFor lookedUp
 returns-8 c = rw (c .before .before .before .before .before .before .before .before .before .before .before .if1 .left, c .before .before .before .before .if8 .taken) (c .before .before .add-cycle .ensures)
 
 add-started-requires : tie.Need-add-started-requires
@@ -94,7 +94,7 @@ same-length-9 : tie.Need-same-length-9
 same-length-9 c = search needs
 
 returns-9 : tie.Need-returns-9
-unfolding wordIn lookedUp
+unfolding wordFor lookedUp
 returns-9 c = rw (c .before .before .before .before .before .before .before .before .before .before .before .before .if1 .left, c .before .before .before .before .if9 .taken) (c .before .before .add-started .ensures)
 
 add-ended-requires : tie.Need-add-ended-requires
@@ -104,11 +104,11 @@ same-length-10 : tie.Need-same-length-10
 same-length-10 c = search needs
 
 returns-10 : tie.Need-returns-10
-unfolding wordIn lookedUp
+unfolding wordFor lookedUp
 returns-10 c = rw (c .before .before .before .before .before .before .before .before .before .before .before .before .before .if1 .left, c .before .before .before .before .if10 .taken) (c .before .before .add-ended .ensures)
 
 returns-11 : tie.Need-returns-11
-unfolding wordIn lookedUp
+unfolding wordFor lookedUp
 returns-11 c =
     rw (
       c .before .before .before .before .before .before .before .before .before .if1 .left,

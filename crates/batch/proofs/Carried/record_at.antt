@@ -1,7 +1,7 @@
-use Rattle.batch.proofs.Elems.{Record-row}
-use Rattle.batch.proofs.record_at.{clauses, ensures-1, requires-1, signature}
 use Rattle.batch_record.proofs.Record.{the-type}
 use Rattle.batch_record.proofs.Record.Laws.{the-copy, the-laws, the-plain}
+use Rattle.batch.proofs.Elems.{Record-row}
+use Rattle.batch.proofs.record_at.{clauses, ensures-1, requires-1, signature}
 use base.Logic.{emp, ent, id⊢}
 use borrow.Fn.Kinds.{Out, PK, RK, endedOf, pNum, stays}
 use borrow.Fn.Kinds as Kinds'

@@ -7,7 +7,7 @@ use Rattle.batch_record.specs.declared.Record.{Record}
 use Rattle.batch.specs.Batches.{noRecord}
 use Rattle.batch_record.proofs.Record as T
 use Rattle.batch_record.proofs.Record.Laws as T′
-use Rattle.batch.proofs.record_at.Key.{name as #batching·record-at}
+use Rattle.batch.proofs.record_at.Key.{name as #batch·record-at}
 use Rattle.batch.proofs.record_at as f
 use Rattle.batch.proofs.record_at.Statement as stated
 use Rattle.batch.proofs.record_at.Code as code
@@ -73,7 +73,7 @@ module _ {M : Type 1} (𝓤 : URA M) (H : Heap 𝓤) (A : Atoms 𝓤) (W : Given
 pub record-at-spec : {M : Type 1} → stated.statement M
 unfolding code.routine
 record-at-spec 𝓤 H 𝓜 𝓖 𝓡 =
-    meets 𝓤 H 𝓜 𝓖 𝓡 f.ended stayed (f.clauses 𝓤 H (𝓖 .A) (𝓜 .mem) (𝓡 .run)) code.env #batching·record-at code.function (code.unfolded 𝓤 H 𝓜 𝓡)
+    meets 𝓤 H 𝓜 𝓖 𝓡 f.ended stayed (f.clauses 𝓤 H (𝓖 .A) (𝓜 .mem) (𝓡 .run)) code.env #batch·record-at code.function (code.unfolded 𝓤 H 𝓜 𝓡)
     (goes-none-slice 𝓤 H (𝓖 .A) (givenOf 𝓤 H 𝓜 𝓖) 1 (0 ∷ []) tt (plain (λ _. R)) yes, (goes-none 𝓤 H (𝓖 .A) (givenOf 𝓤 H 𝓜 𝓖) 1 (λ _. usize) yes (λ κs x f. refl), tt))
     (λ C Λ. walked 𝓤 H (𝓖 .A) f.ended stayed (f.clauses 𝓤 H (𝓖 .A) (𝓜 .mem) (𝓡 .run)) (WpFn 𝓤 H C Λ code.function) (λ κs. (slice-vals, (uint-vals w64, tt))) (λ κs. (shr-slice-tells (named 0) (κs .0) R, (uint-tells w64, tt)))
     (λ κs qs bounds a g are. needs 𝓤 _ _

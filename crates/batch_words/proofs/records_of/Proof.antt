@@ -5,13 +5,14 @@ use native.Mathlib.Omega.{arith}
 use borrow.Author.Needs.{needs}
 use lib.ListN.{length, drop, replicate, length-set}
 use lib.Seq.{sets}
+use Rattle.words.specs.Words.{mostRecords}
 use Rattle.batch_words.specs.Flat.{recordsOf}
 use Rattle.batch_words.proofs.FlatLaws.{put-more, put-all}
 use Rattle.batch_words.proofs.records_of.Statement.{statement}
 use Rattle.batch_words.proofs.records_of.Tie as tie
 
 abbrev Inv-loop : tie.InvT-loop
-Inv-loop steps n records₀ i₀ records i = (i ≤ n) × (length records ≡ 256) × (length records₀ ≡ 256) × (sets records i (recordsOf (drop (i * 5) steps)) ≡ sets records₀ 0 (recordsOf steps))
+Inv-loop steps n records₀ i₀ records i = (i ≤ n) × (length records ≡ mostRecords) × (length records₀ ≡ mostRecords) × (sets records i (recordsOf (drop (i * 5) steps)) ≡ sets records₀ 0 (recordsOf steps))
 
 abbrev μ-loop : tie.MeasureT-loop
 μ-loop steps n records₀ i₀ records i = n - i
@@ -55,7 +56,7 @@ returns c =
     let l = c .before in
     let s = l .before .before .before in
     let e : l .loop .i ≡ s .args .n = omega arith in
-    put-all (s .args .steps .now) (l .loop .records) (replicate 256 (l .before .record-of .result)) (s .args .n) (s .pre .0) (s .pre .1) (rw (← e) (l .loop .inv .3))
+    put-all (s .args .steps .now) (l .loop .records) (replicate mostRecords (l .before .record-of .result)) (s .args .n) (s .pre .0) (s .pre .1) (rw (← e) (l .loop .inv .3))
 
 pub records-of-spec : {M : Type 1} → statement M
 records-of-spec =

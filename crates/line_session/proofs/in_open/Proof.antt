@@ -1,7 +1,7 @@
 use mathlib.Core.Path.{refl, sym}
 use native.Mathlib.Nat.{sub-zero}
 use Rattle.words.proofs.ListLaws.{over-none}
-use Rattle.text_forms.specs.Judging.{countIn}
+use Rattle.text_forms.specs.Judging.{entryCount}
 use Rattle.line_session.specs.Sessions.{openOutcome}
 use borrow.Author.Needs.{needs}
 use Rattle.line_session.proofs.in_open.Statement.{statement}
@@ -20,7 +20,7 @@ part-step-start : tie.Need-part-step-start
 part-step-start c = search needs
 
 part-step-end : tie.Need-part-step-end
-unfolding countIn
+unfolding entryCount
 part-step-end c = rw (c .before .before .before .before .form .given .1) at (c .before .before .before .before .before .before .before .before .before .before .pre)
 
 step-requires : tie.Need-step-requires
@@ -46,7 +46,7 @@ same-length-3 : tie.Need-same-length-3
 same-length-3 c = search needs
 
 returns-2 : tie.Need-returns-2
-unfolding openOutcome countIn
+unfolding openOutcome entryCount
 returns-2 c = rw (c .before .before .before .before .before .before .before .before .before .before .before .before .form .given .1) (rw sub-zero at (c .before .before .before .before .before .before .step .ensures))
 
 returns-3 : tie.Need-returns-3

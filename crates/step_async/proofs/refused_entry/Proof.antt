@@ -14,14 +14,14 @@ cast-place c = search needs
 at-requires : tie.Need-at-requires
 at-requires c κs = search needs
 
-blamed-task-requires : tie.Need-blamed-task-requires
-blamed-task-requires c κs = search needs
+number-at-requires : tie.Need-number-at-requires
+number-at-requires c κs = search needs
 
 returns : tie.Need-returns
 returns c =
     let read = c .before in
     let tested = read .before in
-    rw (c .blamed-task .ensures, read .at .ensures) (sym (at-with-told _ _ _ (sym (tested .before .entry-refusal .ensures) ∙ tested .if1 .taken)))
+    rw (c .number-at .ensures, read .at .ensures) (sym (at-with-told _ _ _ (sym (tested .before .entry-refusal .ensures) ∙ tested .if1 .taken)))
 
 returns-2 : tie.Need-returns-2
 returns-2 c = rw (← c .before .entry-refusal .ensures) (sym (at-with-plain _ _ _ (c .if1 .left)))
@@ -29,4 +29,4 @@ returns-2 c = rw (← c .before .entry-refusal .ensures) (sym (at-with-plain _ _
 pub refused-entry-spec : {M : Type 1} → statement M
 refused-entry-spec =
     tie.close
-    (tie.spec entry-refusal-requires cast-place at-requires blamed-task-requires returns returns-2)
+    (tie.spec entry-refusal-requires cast-place at-requires number-at-requires returns returns-2)

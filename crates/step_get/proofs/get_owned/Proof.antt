@@ -31,7 +31,7 @@ cast-n : tie.Need-cast-n
 cast-n c =
     let trail = c .before in
     let walked = trail .before .before in
-    let most : trail .trail .given .0 .0 ≤ length (start walked .args .tasks .now) = trail-most _ _ _ _ (walked .follow .ensures) (trail .trail .given .1) in
+    let most : trail .trail .given .0 .0 ≤ length (start walked .args .tasks .now) = trail-most _ _ _ _ _ (walked .follow .ensures) (trail .trail .given .1) in
     omega (arith, most)
 
 write-pairs-requires : tie.Need-write-pairs-requires
@@ -48,7 +48,7 @@ returns c =
     let wrote = c .before .before in
     let trail = wrote .before .before .before .before in
     let walked = trail .before .before in
-    let most : trail .trail .given .0 .0 ≤ length (start walked .args .tasks .now) = trail-most _ _ _ _ (walked .follow .ensures) (trail .trail .given .1) in
+    let most : trail .trail .given .0 .0 ≤ length (start walked .args .tasks .now) = trail-most _ _ _ _ _ (walked .follow .ensures) (trail .trail .given .1) in
     rw (← number walked .number-at .ensures)
     (followed-back _ _ _ (walked .follow .ensures) (trail .trail .given .1) (omega (arith, most)) (wrote .write-pairs .ensures))
 
@@ -59,7 +59,7 @@ cast-n-2 : tie.Need-cast-n-2
 cast-n-2 c =
     let trail = c .before in
     let walked = trail .before .before in
-    let most : trail .trail2 .given .0 .0 ≤ length (start walked .args .tasks .now) = trail-most _ _ _ _ (walked .follow .ensures) (trail .trail2 .given .1) in
+    let most : trail .trail2 .given .0 .0 ≤ length (start walked .args .tasks .now) = trail-most _ _ _ _ _ (walked .follow .ensures) (trail .trail2 .given .1) in
     omega (arith, most)
 
 wait-on-requires : tie.Need-wait-on-requires

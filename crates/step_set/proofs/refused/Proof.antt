@@ -5,8 +5,8 @@ use borrow.Author.Needs.{needs}
 use Rattle.step_set.proofs.refused.Statement.{statement}
 use Rattle.step_set.proofs.refused.Tie as tie
 
-blamed-task-requires : tie.Need-blamed-task-requires
-blamed-task-requires c κs = search needs
+number-at-requires : tie.Need-number-at-requires
+number-at-requires c κs = search needs
 
 returns : tie.Need-returns
 unfolding refusedWith
@@ -17,4 +17,4 @@ unfolding refusedWith
 returns-2 c = search (needs, tests)
 
 pub refused-spec : {M : Type 1} → statement M
-refused-spec = tie.close (tie.spec blamed-task-requires returns returns-2)
+refused-spec = tie.close (tie.spec number-at-requires returns returns-2)

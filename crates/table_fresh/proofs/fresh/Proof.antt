@@ -1,7 +1,7 @@
 use mathlib.Core.Path.{sym, ap₂, _∙_}
 use borrow.Author.Tests.{eq-eqb, ne-eqb}
 use Rattle.rules.specs.Tables.{tables}
-use Rattle.rules.specs.Sessions.{freshened}
+use Rattle.rules.specs.Contracts.{freshened}
 use borrow.Author.Needs.{needs}
 use Rattle.table_fresh.proofs.fresh.Statement.{statement}
 use Rattle.table_fresh.proofs.fresh.Tie as tie

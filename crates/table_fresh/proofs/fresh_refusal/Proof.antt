@@ -1,5 +1,4 @@
-use Rattle.rules.specs.Refusals.{first}
-use Rattle.rules.specs.Sessions.{freshRefusal}
+use Rattle.rules.specs.Refusals.{first, freshRefusal}
 use borrow.Author.Needs.{needs}
 use Rattle.table_fresh.proofs.fresh_refusal.Statement.{statement}
 use Rattle.table_fresh.proofs.fresh_refusal.Tie as tie

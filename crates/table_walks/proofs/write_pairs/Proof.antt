@@ -7,13 +7,13 @@ use lib.ListN.{length}
 use borrow.Author.Needs.{needs}
 use Rattle.words.proofs.Tests.{tests}
 use Rattle.rules.specs.Steps.{pairs}
-use Rattle.rules.specs.Tables.{tables}
+use Rattle.rules.specs.Chains.{viewOf}
 use Rattle.table_walks.proofs.PairLaws.{pairs-step, pairs-end, sets-pair}
 use Rattle.table_walks.proofs.write_pairs.Statement.{statement}
 use Rattle.table_walks.proofs.write_pairs.Tie as tie
 
 abbrev Inv-loop : tie.InvT-loop
-Inv-loop tasks promises report₀ k t p left₀ a₀ q₀ i₀ report left a q i = (i + 2 * left ≤ 2 * k) × (length report ≡ length report₀) × (sets report₀ 0 (pairs k (tables tasks promises) t p) ≡ sets report i (pairs left (tables tasks promises) a q))
+Inv-loop tasks promises report₀ k t p left₀ a₀ q₀ i₀ report left a q i = (i + 2 * left ≤ 2 * k) × (length report ≡ length report₀) × (sets report₀ 0 (pairs k (viewOf tasks promises) t p) ≡ sets report i (pairs left (viewOf tasks promises) a q))
 
 abbrev μ-loop : tie.MeasureT-loop
 μ-loop tasks promises report₀ k t p left₀ a₀ q₀ i₀ report left a q i = left

@@ -5,31 +5,31 @@ use Prim.Native.Nat.{_-_, _≤_}
 use mathlib.Core.Path.{_≡_, sym, _∙_}
 use borrow.Author.Needs.{needs}
 use lib.ListN.{length, drop}
-use Rattle.text_numbers.specs.Numbers.{largest, digitsFrom, numberOf}
-use Rattle.text_numbers.proofs.NumberLaws.{numberOf-empty, numberOf-zero, numberOf-zero-more, numberOf-start, digitsFrom-end, digitsFrom-stop, digitsFrom-over, digitsFrom-go}
+use Rattle.text_numbers.specs.Numbers.{largest, digitsFrom, numberIn}
+use Rattle.text_numbers.proofs.NumberLaws.{numberIn-empty, numberIn-zero, numberIn-zero-more, numberIn-start, digitsFrom-end, digitsFrom-stop, digitsFrom-over, digitsFrom-go}
 use Rattle.text_numbers.proofs.number.Statement.{statement}
 use Rattle.text_numbers.proofs.number.Tie as tie
 
 abbrev Inv-loop : tie.InvT-loop
-Inv-loop field v₀ i₀ v i = (i ≤ length field) × (v ≤ largest) × (digitsFrom v i (drop i field) ≡ numberOf field)
+Inv-loop field v₀ i₀ v i = (i ≤ length field) × (v ≤ largest) × (digitsFrom v i (drop i field) ≡ numberIn field)
 
 abbrev μ-loop : tie.MeasureT-loop
 μ-loop field v₀ i₀ v i = length field - i
 
 returns : tie.Need-returns Inv-loop μ-loop
-returns c = sym (numberOf-empty _ (c .if1 .taken))
+returns c = sym (numberIn-empty _ (c .if1 .taken))
 
 shared-slice-read-if2 : tie.Need-shared-slice-read-if2 Inv-loop μ-loop
 shared-slice-read-if2 c = search needs
 
 returns-2 : tie.Need-returns-2 Inv-loop μ-loop
-returns-2 c = sym (numberOf-zero _ (c .before .if2 .taken) (c .if3 .taken))
+returns-2 c = sym (numberIn-zero _ (c .before .if2 .taken) (c .if3 .taken))
 
 returns-3 : tie.Need-returns-3 Inv-loop μ-loop
-returns-3 c = sym (numberOf-zero-more _ (c .before .if2 .taken) (c .if3 .left))
+returns-3 c = sym (numberIn-zero-more _ (c .before .if2 .taken) (c .if3 .left))
 
 loop-holds : tie.Need-loop-holds Inv-loop μ-loop
-loop-holds c = (search needs, search needs, sym (numberOf-start _ (c .before .before .if1 .left) (c .if2 .left)))
+loop-holds c = (search needs, search needs, sym (numberIn-start _ (c .before .before .if1 .left) (c .if2 .left)))
 
 shared-slice-read-digit : tie.Need-shared-slice-read-digit Inv-loop μ-loop
 shared-slice-read-digit c = search needs

@@ -171,5 +171,5 @@ field-from-spec 𝓤 H 𝓜 𝓖 𝓡 =
     entered 𝓤 H (tripleOf 𝓤 H (𝓖 .A) field-from.signature (field-from.spec 𝓤 H (𝓖 .A) (𝓜 .mem) (𝓡 .run)))
     (tables 𝓤 H 𝓜 𝓡 code.env .C) (tables 𝓤 H 𝓜 𝓡 code.env .Λ) #reader·field-from code.function (code.unfolded 𝓤 H 𝓜 𝓡)
     (field-from-meets 𝓤 H (𝓖 .A) (givenOf 𝓤 H 𝓜 𝓖) (𝓜 .mem) (𝓡 .run) (tablesOf 𝓤 H 𝓜 (tables 𝓤 H 𝓜 𝓡 code.env))
-    (cited 𝓤 H (Starts 𝓤 H (𝓖 .A) (𝓜 .mem) (𝓡 .run)) 𝓜 𝓡 code.env #reader·starting starting-def.routine code.calls-reader·starting (starting-thm.met 𝓤 H 𝓜 𝓖 𝓡))
-    (cited 𝓤 H (Hands 𝓤 H (𝓖 .A) (𝓜 .mem) (𝓡 .run)) 𝓜 𝓡 code.env #reader·field field-def.routine code.calls-reader·field (field-thm.met 𝓤 H 𝓜 𝓖 𝓡)))
+    (cited 𝓤 H (Starts 𝓤 H (𝓖 .A) (𝓜 .mem) (𝓡 .run)) 𝓜 𝓡 code.env #reader·starting starting-def.routine code.calls-text-reader·starting (starting-thm.met 𝓤 H 𝓜 𝓖 𝓡))
+    (cited 𝓤 H (Hands 𝓤 H (𝓖 .A) (𝓜 .mem) (𝓡 .run)) 𝓜 𝓡 code.env #reader·field field-def.routine code.calls-text-reader·field (field-thm.met 𝓤 H 𝓜 𝓖 𝓡)))

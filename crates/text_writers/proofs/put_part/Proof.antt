@@ -1,6 +1,6 @@
--- `text_writers::put_part` meets its contract: the part of the words is a slice of them (`partOf-slice`), and past them it is empty.
+-- `text_writers::put_part` meets its contract: the part of the words is a slice of them (`stretchOf-slice`), and past them it is empty.
 -- Assumes nothing.
-use Rattle.text_writers.proofs.WriterLaws.{partOf-none, partOf-slice, fields-none}
+use Rattle.text_writers.proofs.WriterLaws.{stretchOf-none, stretchOf-slice, fields-none}
 use native.Mathlib.Omega.{arith}
 use borrow.Author.Needs.{needs}
 use Rattle.text_writers.proofs.put_part.Statement.{statement}
@@ -9,7 +9,7 @@ use Rattle.text_writers.proofs.put_part.Tie as tie
 returns : tie.Need-returns
 returns c =
     let a = c .before .before .before .args in
-    rw (partOf-none (a .words .now) (a .from) (a .count) (omega arith)) (fields-none _)
+    rw (stretchOf-none (a .words .now) (a .from) (a .count) (omega arith)) (fields-none _)
 
 part-end-requires : tie.Need-part-end-requires
 part-end-requires c κs = search needs
@@ -35,7 +35,7 @@ same-length c = search needs
 returns-2 : tie.Need-returns-2
 returns-2 c =
     let a = c .before .before .before .before .before .before .before .before .before .args in
-    rw (partOf-slice (a .words .now) (a .from) (a .count) _ (c .before .before .before .before .before .part-end .ensures)) at (c .before .before .put-numbers .ensures)
+    rw (stretchOf-slice (a .words .now) (a .from) (a .count) _ (c .before .before .before .before .before .part-end .ensures)) at (c .before .before .put-numbers .ensures)
 
 pub put-part-spec : {M : Type 1} → statement M
 put-part-spec =

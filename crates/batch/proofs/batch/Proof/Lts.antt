@@ -1,10 +1,10 @@
 use Rattle.batch.proofs.Elems.{Record-mir, Record-pointed, Record-row, U16, put}
 use Prim.Native.Nat.{_<_, _≤_, ℕ}
+use Rattle.batch_record.proofs.Record
+use Rattle.batch_record.proofs.Record.Laws
 use Rattle.batch.proofs.Called.{enum}
 use Rattle.batch.proofs.Called
-use Rattle.batch.proofs.Called.Laws
-use Rattle.batch_record.proofs.Record
-use Rattle.batch_record.proofs.Record.Laws as Laws'
+use Rattle.batch.proofs.Called.Laws as Laws'
 use borrow.Author.Called.{Called, called}
 use borrow.Author.Called as Called'
 use borrow.Author.Tests.{eqb-false, eqb-true, ltb-false, ltb-true, not-false, not-true}
@@ -141,18 +141,18 @@ abbrev pub r : RK 6
 r = rVal record {
   ty = Declared.row Called.the-type;
   one = refl;
-  val = Laws''.val Called.the-type Laws.the-laws;
-  tells = Laws''.tells Called.the-type Laws.the-laws;
+  val = Laws''.val Called.the-type Laws'.the-laws;
+  tells = Laws''.tells Called.the-type Laws'.the-laws;
   still =
-      Laws''.still Called.the-type Laws.the-copy yes;
+      Laws''.still Called.the-type Laws'.the-copy yes;
   row = whole (Declared.row Called.the-type);
   rd = λ x. x;
   mk = λ x. x;
 } λ M 𝓤 H A W. record {
   copies = Laws''.copy
-      Called.the-type Laws.the-copy 𝓤 H A W;
-  lawful = Laws''.lawful Called.the-type Laws.the-laws 𝓤 H A W tt;
-  makes = Laws''.makes Called.the-type Laws.the-plain 𝓤 H A;
+      Called.the-type Laws'.the-copy 𝓤 H A W;
+  lawful = Laws''.lawful Called.the-type Laws'.the-laws 𝓤 H A W tt;
+  makes = Laws''.makes Called.the-type Laws'.the-plain 𝓤 H A;
   in-mem =
       mem-whole 𝓤 H A W (Declared.row Called.the-type);
   of-mem = whole-mem 𝓤 H A W (Declared.row Called.the-type);
@@ -180,18 +180,18 @@ abbrev pub r·1 : RK 1
 r·1 = rVal record {
   ty = Declared'.row Record.the-type;
   one = refl;
-  val = Laws'3.val Record.the-type Laws'.the-laws;
-  tells = Laws'3.tells Record.the-type Laws'.the-laws;
+  val = Laws'3.val Record.the-type Laws.the-laws;
+  tells = Laws'3.tells Record.the-type Laws.the-laws;
   still =
-      Laws'3.still Record.the-type Laws'.the-copy yes;
+      Laws'3.still Record.the-type Laws.the-copy yes;
   row = whole (Declared'.row Record.the-type);
   rd = λ x. x;
   mk = λ x. x;
 } λ M 𝓤 H A W. record {
   copies = Laws'3.copy
-      Record.the-type Laws'.the-copy 𝓤 H A W;
-  lawful = Laws'3.lawful Record.the-type Laws'.the-laws 𝓤 H A W;
-  makes = Laws'3.makes Record.the-type Laws'.the-plain 𝓤 H A;
+      Record.the-type Laws.the-copy 𝓤 H A W;
+  lawful = Laws'3.lawful Record.the-type Laws.the-laws 𝓤 H A W;
+  makes = Laws'3.makes Record.the-type Laws.the-plain 𝓤 H A;
   in-mem =
       mem-whole 𝓤 H A W (Declared'.row Record.the-type);
   of-mem = whole-mem 𝓤 H A W (Declared'.row Record.the-type);
@@ -201,22 +201,22 @@ abbrev pub ps·2 : List (PK 5)
 ps·2 = pMutS U16 0 tt ∷ pMutS U16 1 tt ∷ pMutS U16 2 tt ∷ pNum w64 ∷ (pVal record {
   ty = Declared'.row Record.the-type;
   one = refl;
-  val = Laws'3.val Record.the-type Laws'.the-laws;
-  tells = Laws'3.tells Record.the-type Laws'.the-laws;
-  still = Laws'3.still Record.the-type Laws'.the-copy yes;
+  val = Laws'3.val Record.the-type Laws.the-laws;
+  tells = Laws'3.tells Record.the-type Laws.the-laws;
+  still = Laws'3.still Record.the-type Laws.the-copy yes;
   row = whole (Declared'.row Record.the-type);
   rd = λ x. x;
-  mk = λ
-      x. x;
+  mk = λ x.
+      x;
 } λ M 𝓤 H A W. record {
-  copies = Laws'3.copy Record.the-type Laws'.the-copy 𝓤 H A W;
-  lawful = Laws'3.lawful Record.the-type Laws'.the-laws 𝓤 H A W;
+  copies = Laws'3.copy Record.the-type Laws.the-copy 𝓤 H A W;
+  lawful = Laws'3.lawful Record.the-type Laws.the-laws 𝓤 H A W;
   makes = Laws'3.makes
-      Record.the-type Laws'.the-plain 𝓤 H A;
+      Record.the-type Laws.the-plain 𝓤 H A;
   in-mem = mem-whole 𝓤 H A W (Declared'.row Record.the-type);
   of-mem = whole-mem 𝓤 H A W (Declared'.row Record.the-type);
-}) ∷ pShrS U16 3
-    tt ∷ pMutS U16 4 tt ∷ pNum w64 ∷ []
+}) ∷ pShrS U16 3 tt
+    ∷ pMutS U16 4 tt ∷ pNum w64 ∷ []
 
 abbrev pub r·2 : RK 5
 r·2 = rNum w64
@@ -318,8 +318,8 @@ abbrev b29 : Body
 b29 = assign (place 28 []) (aggregate (Syntax.copy (place 27 []) ∷ Syntax.copy (place 6 (field 1 ∷ [])) ∷ []))
 
 abbrev b30 : Body
-b30 = call "batch_record::turn" (Syntax.copy (place 22 []) ∷ Syntax.copy (place 24 []) ∷ Syntax.copy (place 26 []) ∷ Syntax.copy (place 8 []) ∷ Syntax.copy (place 10 []) ∷ Syntax.copy
-    (place 5 []) ∷ Syntax.copy (place 28 []) ∷ Syntax.copy (place 9 []) ∷ []) (place 8 [])
+b30 = call "batch_record::turn" (Syntax.copy (place 22 []) ∷ Syntax.copy (place 24 []) ∷ Syntax.copy (place 26 []) ∷ Syntax.copy (place 8 []) ∷ Syntax.copy (place 10 []) ∷
+    Syntax.copy (place 5 []) ∷ Syntax.copy (place 28 []) ∷ Syntax.copy (place 9 []) ∷ []) (place 8 [])
 
 abbrev b31 : Body
 b31 = assign (place 9 []) (op2 (add unsigned) (Syntax.copy (place 9 [])) (int w64 1))
@@ -424,21 +424,20 @@ abbrev pub Claims : Type 1
 Claims = In 2 ps·0 × Out 2 ps·0 r·0 × In 1 ps·1 × Out 1 ps·1 r·1 × In 5 ps·2 × Out 5 ps·2 r·2
 
 abbrev pub t0 : List Entry
-t0 = (
-  0,
-  any-gone (tyEnum (98 ∷ 97 ∷ 116 ∷ 99 ∷ 104 ∷ 105 ∷ 110 ∷ 103 ∷ 58 ∷ 58 ∷ 67 ∷ 97 ∷ 108 ∷ 108 ∷ 101 ∷ 100 ∷ []) (ttcons (tcons (tyInt w16) tnil) (ttcons (tcons (tyInt w64)
-      tnil) ttnil))),
-) ∷ (1, mslice U16 (tyRef (named 0) mut (tyInt w16)) 0) ∷ (2, mslice U16 (tyRef (named 1) mut (tyInt w16)) 1) ∷ (
-  3,
-  mslice U16 (tyRef (named 2) mut (tyInt w16))
-      2,
-) ∷ (4, sslice Record-row (tyRef (named 3) imm Record-pointed) 3) ∷ (5, sslice U16 (tyRef (named 4) imm (tyInt w16)) 4) ∷ (6, mslice U16 (tyRef (named 5) mut (tyInt w16)) 5) ∷
-    (7, any-gone (tyInt w16)) ∷ (8, any-gone (tyInt w64)) ∷ (9, any-gone (tyInt w64)) ∷ (10, any-gone Record-mir) ∷ (11, any-gone (tyRef erased imm (tyInt w16))) ∷ (
-      12,
+t0 = (0, any-gone (tyEnum (98 ∷ 97 ∷ 116 ∷ 99 ∷ 104 ∷ 58 ∷ 58 ∷ 67 ∷ 97 ∷ 108 ∷ 108 ∷ 101 ∷ 100 ∷ []) (ttcons (tcons (tyInt w16) tnil) (ttcons (tcons (tyInt w64) tnil) ttnil)))) ∷
+    (1, mslice U16 (tyRef (named 0) mut (tyInt w16)) 0) ∷ (2, mslice U16 (tyRef (named 1) mut (tyInt w16)) 1) ∷ (3, mslice U16 (tyRef (named 2) mut (tyInt w16)) 2) ∷ (
+      4,
+      sslice
+          Record-row (tyRef (named 3) imm Record-pointed) 3,
+    ) ∷ (5, sslice U16 (tyRef (named 4) imm (tyInt w16)) 4) ∷ (6, mslice U16 (tyRef (named 5) mut (tyInt w16)) 5) ∷ (
+      7,
       any-gone
-          (sliceTy (tyRef erased imm (tyInt w16))),
-    ) ∷ (13, any-gone (tyRef erased imm (tyInt w16))) ∷ (14, any-gone (sliceTy (tyRef erased imm (tyInt w16)))) ∷ (15, any-gone (tyInt w64))
-    ∷ []
+          (tyInt w16),
+    ) ∷ (8, any-gone (tyInt w64)) ∷ (9, any-gone (tyInt w64)) ∷ (10, any-gone Record-mir) ∷ (11, any-gone (tyRef erased imm (tyInt w16))) ∷ (
+      12,
+      any-gone (sliceTy (tyRef
+          erased imm (tyInt w16))),
+    ) ∷ (13, any-gone (tyRef erased imm (tyInt w16))) ∷ (14, any-gone (sliceTy (tyRef erased imm (tyInt w16)))) ∷ (15, any-gone (tyInt w64)) ∷ []
 
 abbrev pub t1 : List Entry
 t1 = (16, any-gone (tyInt w64)) ∷ (17, any-gone (tyInt w64)) ∷ (18, any-gone tyBool) ∷ (19, any-gone (tyInt w64)) ∷ (20, any-gone tyBool) ∷ (
@@ -1300,8 +1299,8 @@ module _ (claims· : Claims) where
 
       module _ {M : Type 1} (𝓤 : URA M) (H : Heap 𝓤) (A : Atoms 𝓤) (W : Given 𝓤 H A) (𝓣 : Tables 𝓤 H) where
         abbrev Knowns : Type 1
-        Knowns = Known 𝓤 H A W 𝓣 2 ps·0 r·0 (claims· .0) (claims· .1) "batch::call_refusal" × Known 𝓤 H A W 𝓣 1 ps·1 r·1 (claims· .2) (claims· .3) "batch::record_at" × Known
-            𝓤 H A W 𝓣 5 ps·2 r·2 (claims· .4) (claims· .5) "batch_record::turn"
+        Knowns = Known 𝓤 H A W 𝓣 2 ps·0 r·0 (claims· .0) (claims· .1) "batch::call_refusal" × Known 𝓤 H A W 𝓣 1 ps·1 r·1 (claims· .2) (claims· .3) "batch::record_at" × Known 𝓤 H A
+            W 𝓣 5 ps·2 r·2 (claims· .4) (claims· .5) "batch_record::turn"
 
       module _ (κs : Lfts 6) (qs : Shares 6) where
         abbrev K0 : Life
@@ -1643,22 +1642,16 @@ module _ (claims· : Claims) where
             d1 = g-pre 𝓤 H A W 𝓣 E G31 G32 b10 Δ1 (pass T31 T32 s29) at0 (g-room 𝓤 H A W E G31 7 (tyInt w16) (room-sc 𝓤 H A W (sInt w16))) d0
 
             d2 : Typed 𝓤 H A 𝓣 E G30 b11 Δ1 at2
-            d2 = s-seq 𝓤 H A W 𝓣 E G30 G31 b9 b10 Δ1 (pass T30 T31 s28) at1 (t-enum-make-wt 𝓤 H A W E 𝓣 Called.the-type Laws.the-laws Laws.the-plain tt G30 0 (oInt w8 0 ∷ oAt 7
-                (tyInt w16) (valS (sInt w16)) ∷ []) (λ m. enum .make (inl (m .1 .1 .1 .1 .1 .1 .1 .0, tt))) (room-gone 𝓤 H A (tyEnum (98 ∷ 97 ∷ 116 ∷ 99 ∷ 104 ∷ 105 ∷ 110 ∷ 103 ∷ 58
-                ∷ 58 ∷ 67 ∷ 97 ∷ 108 ∷ 108 ∷ 101 ∷ 100 ∷ []) (ttcons (tcons (tyInt w16) tnil) (ttcons (tcons (tyInt w64) tnil) ttnil)))) (
+            d2 = s-seq 𝓤 H A W 𝓣 E G30 G31 b9 b10 Δ1 (pass T30 T31 s28) at1 (t-enum-make-wt 𝓤 H A W E 𝓣 Called.the-type Laws'.the-laws Laws'.the-plain tt G30 0 (oInt w8 0 ∷ oAt 7
+                (tyInt w16) (valS (sInt w16)) ∷ []) (λ m. enum .make (inl (m .1 .1 .1 .1 .1 .1 .1 .0, tt))) (room-gone 𝓤 H A (tyEnum (98 ∷ 97 ∷ 116 ∷ 99 ∷ 104 ∷ 58 ∷ 58 ∷ 67 ∷ 97 ∷
+                108 ∷ 108 ∷ 101 ∷ 100 ∷ []) (ttcons (tcons (tyInt w16) tnil) (ttcons (tcons (tyInt w64) tnil) ttnil)))) (tt, ((reads-sc 𝓤 H A W (sInt w16), refl), tt)) refl (λ m wa.
+                made-val Called.the-type Laws'.the-laws (Laws'.the-laws .0 .0 .val (m .1 .1 .1 .1 .1 .1 .1 .0) ∷ []) (enum .make (inl (m .1 .1 .1 .1 .1 .1 .1 .0, tt))) (
+                  made-wt
+                      u16-field (Laws'.the-laws .0 .0) u16-wt (m .1 .1 .1 .1 .1 .1 .1 .0),
                   tt,
-                  (
-                    (reads-sc 𝓤 H A W (sInt w16), refl),
-                    tt,
-                  ),
-                ) refl (λ m wa. made-val Called.the-type Laws.the-laws (Laws.the-laws .0 .0 .val (m .1 .1 .1 .1 .1 .1 .1 .0) ∷ []) (enum .make (inl (
-                  m .1 .1 .1 .1 .1 .1 .1 .0,
-                  tt,
-                ))) (made-wt u16-field (Laws.the-laws .0 .0) u16-wt (m .1 .1 .1 .1 .1 .1 .1 .0), tt) (wa .1)) λ m wa. made-is Called.the-type Laws.the-laws (Laws.the-laws .0 .0
-                .val (m .1 .1 .1 .1 .1 .1 .1 .0) ∷ []) (enum .make (inl (m .1 .1 .1 .1 .1 .1 .1 .0, tt))) (
-                  made-wt u16-field (Laws.the-laws .0 .0) u16-wt (m .1 .1 .1 .1 .1 .1 .1 .0),
-                  tt,
-                ) (wa .1)) d1
+                ) (wa .1)) λ m wa. made-is Called.the-type Laws'.the-laws (Laws'.the-laws .0 .0 .val (m .1 .1
+                .1 .1 .1 .1 .1 .0) ∷ []) (enum .make (inl (m .1 .1 .1 .1 .1 .1 .1 .0, tt))) (made-wt u16-field (Laws'.the-laws .0 .0) u16-wt (m .1 .1 .1 .1 .1 .1 .1 .0), tt) (wa .1))
+                d1
 
             d3 : Typed 𝓤 H A 𝓣 E G28 b11 Δ1 at3
             d3 = g-pre 𝓤 H A W 𝓣 E G28 G30 b11 Δ1 (pass T28 T30 s27) at2 (g-room 𝓤 H A W E G28 18 tyBool (room-sc 𝓤 H A W sBool)) d2
@@ -1802,7 +1795,7 @@ module _ (claims· : Claims) where
                         (
                           (
                             yields-copy 𝓤 H A W (λ ρ. Unit) (Declared'.row
-                                Record.the-type) refl (cStruct Record.the-type Laws'.the-laws Laws'.the-copy .copy 𝓤 H A W) (whole (Declared'.row Record.the-type)) (λ x. x) (λ x. x) (λ ρ told.
+                                Record.the-type) refl (cStruct Record.the-type Laws.the-laws Laws.the-copy .copy 𝓤 H A W) (whole (Declared'.row Record.the-type)) (λ x. x) (λ x. x) (λ ρ told.
                                 mem-whole 𝓤 H A W (Declared'.row Record.the-type) ρ) λ ρ told. whole-mem 𝓤 H A W (Declared'.row Record.the-type) ρ,
                             refl,
                           ),
@@ -2070,8 +2063,8 @@ module _ (claims· : Claims) where
             )) d42
 
             d44 : Typed 𝓤 H A 𝓣 E G39 b41 Δ4 at44
-            d44 = s-seq 𝓤 H A W 𝓣 E G39 G43 b21 b40 Δ4 (both s38) at43 (t-call-plain 𝓤 H A W 𝓣 1 ps·1 r·1 (claims· .2) (claims· .3) "batch::record_at" (known .1) E (λ pos β. β)
-                G39 (record { pos = 4; ty = tyRef (named 3) imm Record-pointed; ref = λ x. x }, (vAt 9 λ x. x, tt)) 10 (3 ∷ []) (sub-id 𝓤 H A W (G39 .slots)) (
+            d44 = s-seq 𝓤 H A W 𝓣 E G39 G43 b21 b40 Δ4 (both s38) at43 (t-call-plain 𝓤 H A W 𝓣 1 ps·1 r·1 (claims· .2) (claims· .3) "batch::record_at" (known .1) E (λ pos β. β) G39
+                (record { pos = 4; ty = tyRef (named 3) imm Record-pointed; ref = λ x. x }, (vAt 9 λ x. x, tt)) 10 (3 ∷ []) (sub-id 𝓤 H A W (G39 .slots)) (
                   spares-sslice 𝓤 H A W
                       Record-row (tyRef (named 3) imm Record-pointed) 3,
                   reads-sslice 𝓤 H A W Record-row (tyRef (named 3) imm Record-pointed) 3,
@@ -2118,25 +2111,16 @@ module _ (claims· : Claims) where
             d53 = g-pre 𝓤 H A W 𝓣 E G75 G76 b48 Δ0 (pass T75 T76 s71) at52 (g-room 𝓤 H A W E G75 7 (tyInt w16) (room-sc 𝓤 H A W (sInt w16))) d52
 
             d54 : Typed 𝓤 H A 𝓣 E G36 b49 Δ0 at54
-            d54 = s-seq 𝓤 H A W 𝓣 E G36 G75 b47 b48 Δ0 (pass T36 T75 s70) at53 (t-enum-make-wt 𝓤 H A W E 𝓣 Called.the-type Laws.the-laws Laws.the-plain tt G36 0 (oInt w8 1 ∷ oAt 8
-                (tyInt w64) (valS (sInt w64)) ∷ []) (λ m. enum .make (inr (inl (m .1 .1 .1 .1 .1 .1 .1 .1 .0, tt)))) (room-gone 𝓤 H A (tyEnum (98 ∷ 97 ∷ 116 ∷ 99 ∷ 104 ∷ 105 ∷ 110 ∷
-                103 ∷ 58 ∷ 58 ∷ 67 ∷ 97 ∷ 108 ∷ 108 ∷ 101 ∷ 100 ∷ []) (ttcons (tcons (tyInt w16) tnil) (ttcons (tcons (tyInt w64) tnil) ttnil)))) (
+            d54 = s-seq 𝓤 H A W 𝓣 E G36 G75 b47 b48 Δ0 (pass T36 T75 s70) at53 (t-enum-make-wt 𝓤 H A W E 𝓣 Called.the-type Laws'.the-laws Laws'.the-plain tt G36 0 (oInt w8 1 ∷ oAt 8
+                (tyInt w64) (valS (sInt w64)) ∷ []) (λ m. enum .make (inr (inl (m .1 .1 .1 .1 .1 .1 .1 .1 .0, tt)))) (room-gone 𝓤 H A (tyEnum (98 ∷ 97 ∷ 116 ∷ 99 ∷ 104 ∷ 58 ∷ 58 ∷ 67
+                ∷ 97 ∷ 108 ∷ 108 ∷ 101 ∷ 100 ∷ []) (ttcons (tcons (tyInt w16) tnil) (ttcons (tcons (tyInt w64) tnil) ttnil)))) (tt, ((reads-sc 𝓤 H A W (sInt w64), refl), tt)) refl (λ
+                m wa. made-val Called.the-type Laws'.the-laws (Laws'.the-laws .1 .0 .0 .val (m .1 .1 .1 .1 .1 .1 .1 .1 .0) ∷ []) (enum .make (inr (inl (
+                  m .1 .1 .1 .1 .1 .1 .1 .1 .0,
                   tt,
-                  (
-                    (
-                      reads-sc 𝓤 H A W (sInt w64),
-                      refl,
-                    ),
-                    tt,
-                  ),
-                ) refl (λ m wa. made-val Called.the-type Laws.the-laws (Laws.the-laws .1 .0 .0 .val (m .1 .1 .1 .1 .1 .1 .1 .1 .0) ∷ []) (enum .make (inr (inl (
-                  m .1 .1 .1
-                      .1 .1 .1 .1 .1 .0,
-                  tt,
-                )))) (made-wt u64-field (Laws.the-laws .1 .0 .0) u64-wt (m .1 .1 .1 .1 .1 .1 .1 .1 .0), tt) (wa .1)) λ m wa. made-is Called.the-type
-                Laws.the-laws (Laws.the-laws .1 .0 .0 .val (m .1 .1 .1 .1 .1 .1 .1 .1 .0) ∷ []) (enum .make (inr (inl (m .1 .1 .1 .1 .1 .1 .1 .1 .0, tt)))) (
-                  made-wt u64-field
-                      (Laws.the-laws .1 .0 .0) u64-wt (m .1 .1 .1 .1 .1 .1 .1 .1 .0),
+                )))) (made-wt u64-field (Laws'.the-laws .1 .0 .0) u64-wt (m .1 .1 .1 .1 .1 .1 .1 .1 .0), tt) (wa .1)) λ m wa. made-is Called.the-type Laws'.the-laws (Laws'.the-laws
+                .1 .0 .0 .val (m .1 .1 .1 .1 .1 .1 .1 .1 .0) ∷ []) (enum .make (inr (inl (m .1 .1 .1 .1 .1 .1 .1 .1 .0, tt)))) (
+                  made-wt u64-field (Laws'.the-laws .1 .0 .0) u64-wt (m
+                      .1 .1 .1 .1 .1 .1 .1 .1 .0),
                   tt,
                 ) (wa .1)) d53
 
@@ -2196,32 +2180,31 @@ module _ (claims· : Claims) where
                 imm (tyInt w16)) 6)) d69
 
             d71 : Typed 𝓤 H A 𝓣 E G15 b55 Δ0 at71
-            d71 = s-seq 𝓤 H A W 𝓣 E G15 G16 b7 b54 Δ0 (both s14) at70 (t-call-plain 𝓤 H A W 𝓣 2 ps·0 r·0 (claims· .0) (claims· .1) "batch::call_refusal" (known .0) E (λ pos β. β)
-                G15 (
-                  record { pos = 12; ty = tyRef erased imm (tyInt w16); ref = λ x. x },
+            d71 = s-seq 𝓤 H A W 𝓣 E G15 G16 b7 b54 Δ0 (both s14) at70 (t-call-plain 𝓤 H A W 𝓣 2 ps·0 r·0 (claims· .0) (claims· .1) "batch::call_refusal" (known .0) E (λ pos β. β) G15 (
+              record { pos = 12; ty = tyRef erased imm (tyInt w16); ref = λ x. x },
+              (
+                record { pos = 14; ty = tyRef erased imm (tyInt w16); ref = λ x. x },
+                (
+                  vAt 15 λ x. x,
                   (
-                    record { pos = 14; ty = tyRef erased imm (tyInt w16); ref = λ x. x },
-                    (
-                      vAt 15 λ x. x,
-                      (
-                        vAt
-                            16 λ x. x,
-                        (vAt 17 λ x. x, tt),
-                      ),
-                    ),
+                    vAt 16
+                        λ x. x,
+                    (vAt 17 λ x. x, tt),
                   ),
-                ) 7 (6 ∷ 7 ∷ []) (sub-id 𝓤 H A W (G15 .slots)) (
-                  spares-sslice 𝓤 H A W U16 (tyRef erased imm (tyInt w16)) 6,
-                  reads-sslice 𝓤 H A W U16
-                      (tyRef erased imm (tyInt w16)) 6,
-                  refl,
-                  (
-                    spares-sslice 𝓤 H A W U16 (tyRef erased imm (tyInt w16)) 7,
-                    reads-sslice 𝓤 H A W U16 (tyRef erased imm (tyInt w16)) 7,
-                    refl,
-                    ((reads-sc 𝓤 H A W (sInt w64), refl), ((reads-sc 𝓤 H A W (sInt w64), refl), ((reads-sc 𝓤 H A W (sInt w64), refl), tt))),
-                  ),
-                ) (room-gone 𝓤 H A (tyInt w16)) (tt, (tt, tt))
+                ),
+              ),
+            ) 7 (6 ∷ 7 ∷ []) (sub-id 𝓤 H A W (G15 .slots)) (
+              spares-sslice 𝓤 H A W U16 (tyRef erased imm (tyInt w16)) 6,
+              reads-sslice 𝓤 H A W U16
+                  (tyRef erased imm (tyInt w16)) 6,
+              refl,
+              (
+                spares-sslice 𝓤 H A W U16 (tyRef erased imm (tyInt w16)) 7,
+                reads-sslice 𝓤 H A W U16 (tyRef erased imm (tyInt w16)) 7,
+                refl,
+                ((reads-sc 𝓤 H A W (sInt w64), refl), ((reads-sc 𝓤 H A W (sInt w64), refl), ((reads-sc 𝓤 H A W (sInt w64), refl), tt))),
+              ),
+            ) (room-gone 𝓤 H A (tyInt w16)) (tt, (tt, tt))
                 refl) d70
 
             d72 : Typed 𝓤 H A 𝓣 E G14 b56 Δ0 at72
@@ -4010,7 +3993,7 @@ module _ (claims· : Claims) where
           }
 
         module _ {M : Type 1} (𝓤 : URA M) (H : Heap 𝓤) (A : Atoms 𝓤) (W : Given 𝓤 H A) (𝓣 : Tables 𝓤 H) (known0 : Known 𝓤 H A W 𝓣 2 ps·0 r·0 (claims· .0) (claims· .1)
-            "batch::call_refusal") (known1 : Known 𝓤 H A W 𝓣 1 ps·1 r·1 (claims· .2) (claims· .3) "batch::record_at") (known2 : Known 𝓤 H A W 𝓣 5 ps·2 r·2 (claims· .4)
-            (claims· .5) "batch_record::turn") where
+            "batch::call_refusal") (known1 : Known 𝓤 H A W 𝓣 1 ps·1 r·1 (claims· .2) (claims· .3) "batch::record_at") (known2 : Known 𝓤 H A W 𝓣 5 ps·2 r·2 (claims· .4) (claims· .5)
+            "batch_record::turn") where
           pub spec : Triple 𝓤 (WpFn 𝓤 H (𝓣 .C) (𝓣 .Λ) (fnOf 6 ps r xs m hs body)) (plainOf 𝓤 H A 6 ps r Pre· Post·)
           spec = t-fn-plain 𝓤 H A W 𝓣 6 ps r xs m hs body (λ κs qs bs. Φ) (λ κs qs bs bd. typed κs qs 𝓤 H A W 𝓣 (known0, known1, known2) bs bd) Pre· Post· asked

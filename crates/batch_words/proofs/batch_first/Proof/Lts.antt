@@ -255,26 +255,23 @@ abbrev pub Claims : Type 1
 Claims = In 6 ps·0 × Out 6 ps·0 r·0
 
 abbrev pub t0 : List Entry
-t0 = (
-  0,
-  any-gone (tyEnum (98 ∷ 97 ∷ 116 ∷ 99 ∷ 104 ∷ 105 ∷ 110 ∷ 103 ∷ 58 ∷ 58 ∷ 67 ∷ 97 ∷ 108 ∷ 108 ∷ 101 ∷ 100 ∷ []) (ttcons (tcons (tyInt w16) tnil) (ttcons (tcons (tyInt w64)
-      tnil) ttnil))),
-) ∷ (1, mslice U16 (tyRef (named 0) mut (tyInt w16)) 0) ∷ (2, mslice U16 (tyRef (named 1) mut (tyInt w16)) 1) ∷ (
-  3,
-  mslice U16 (tyRef (named 2) mut (tyInt w16))
-      2,
-) ∷ (4, arrF Record-row 256 0) ∷ (5, sc-here (sInt w64)) ∷ (6, sslice U16 (tyRef (named 3) imm (tyInt w16)) 3) ∷ (7, mslice U16 (tyRef (named 4) mut (tyInt w16)) 4) ∷ (
-  8,
-  any-gone (tyArray Record-mir 256),
-) ∷ (9, any-gone (tyRef erased mut (tyInt w16))) ∷ (10, any-gone (sliceTy (tyRef erased mut (tyInt w16)))) ∷ (
-  11,
-  any-gone (tyRef erased mut
-      (tyInt w16)),
-) ∷ (12, any-gone (sliceTy (tyRef erased mut (tyInt w16)))) ∷ (13, any-gone (tyRef erased mut (tyInt w16))) ∷ (
-  14,
-  any-gone (sliceTy (tyRef erased mut (tyInt
-      w16))),
-) ∷ (15, any-gone tyPtr) ∷ []
+t0 = (0, any-gone (tyEnum (98 ∷ 97 ∷ 116 ∷ 99 ∷ 104 ∷ 58 ∷ 58 ∷ 67 ∷ 97 ∷ 108 ∷ 108 ∷ 101 ∷ 100 ∷ []) (ttcons (tcons (tyInt w16) tnil) (ttcons (tcons (tyInt w64) tnil) ttnil)))) ∷
+    (1, mslice U16 (tyRef (named 0) mut (tyInt w16)) 0) ∷ (2, mslice U16 (tyRef (named 1) mut (tyInt w16)) 1) ∷ (3, mslice U16 (tyRef (named 2) mut (tyInt w16)) 2) ∷ (
+      4,
+      arrF
+          Record-row 256 0,
+    ) ∷ (5, sc-here (sInt w64)) ∷ (6, sslice U16 (tyRef (named 3) imm (tyInt w16)) 3) ∷ (7, mslice U16 (tyRef (named 4) mut (tyInt w16)) 4) ∷ (
+      8,
+      any-gone (tyArray
+          Record-mir 256),
+    ) ∷ (9, any-gone (tyRef erased mut (tyInt w16))) ∷ (10, any-gone (sliceTy (tyRef erased mut (tyInt w16)))) ∷ (11, any-gone (tyRef erased mut (tyInt w16))) ∷ (
+      12,
+      any-gone (sliceTy (tyRef erased mut (tyInt w16))),
+    ) ∷ (13, any-gone (tyRef erased mut (tyInt w16))) ∷ (14, any-gone (sliceTy (tyRef erased mut (tyInt w16)))) ∷ (
+      15,
+      any-gone
+          tyPtr,
+    ) ∷ []
 
 abbrev pub t1 : List Entry
 t1 = (16, any-gone tyPtr) ∷ (17, any-gone (tyInt w64)) ∷ (18, any-gone (tyRef erased imm Record-pointed)) ∷ (19, any-gone (sliceTy (tyRef erased imm Record-pointed))) ∷ (
@@ -555,8 +552,7 @@ module _ (claims· : Claims) where
       ),
     ),
   ) 0 (5 ∷ 6 ∷ 7 ∷ 8 ∷ 3 ∷ 9 ∷
-      []) (tyEnum (98 ∷ 97 ∷ 116 ∷ 99 ∷ 104 ∷ 105 ∷ 110 ∷ 103 ∷ 58 ∷ 58 ∷ 67 ∷ 97 ∷ 108 ∷ 108 ∷ 101 ∷ 100 ∷ []) (ttcons (tcons (tyInt w16) tnil) (ttcons (tcons (tyInt w64) tnil)
-      ttnil)))
+      []) (tyEnum (98 ∷ 97 ∷ 116 ∷ 99 ∷ 104 ∷ 58 ∷ 58 ∷ 67 ∷ 97 ∷ 108 ∷ 108 ∷ 101 ∷ 100 ∷ []) (ttcons (tcons (tyInt w16) tnil) (ttcons (tcons (tyInt w64) tnil) ttnil)))
 
   abbrev s25 : (bs : List ℕ) → Mo T26 → Mo T27
   s25 = λ bs. n-room T26 19 (sliceTy (tyRef erased imm Record-pointed))
@@ -585,8 +581,8 @@ module _ (claims· : Claims) where
   module _ (Pre· : (κs : Lfts 5) → Dens κs ps → Type 0) (Post· : (κs : Lfts 5) → (a : Dens κs ps) → Plain 5 ps r κs) where
     module _ (M : Type 1) where
       abbrev pub Closed : Type 2
-      Closed = (𝓤 : URA M) (H : Heap 𝓤) (A : Atoms 𝓤) (W : Given 𝓤 H A) (𝓣 : Tables 𝓤 H) (known0 : Known 𝓤 H A W 𝓣 6 ps·0 r·0 (claims· .0) (claims· .1) "batch::batch") → Triple
-          𝓤 (WpFn 𝓤 H (𝓣 .C) (𝓣 .Λ) (fnOf 5 ps r xs m hs body)) (plainOf 𝓤 H A 5 ps r Pre· Post·)
+      Closed = (𝓤 : URA M) (H : Heap 𝓤) (A : Atoms 𝓤) (W : Given 𝓤 H A) (𝓣 : Tables 𝓤 H) (known0 : Known 𝓤 H A W 𝓣 6 ps·0 r·0 (claims· .0) (claims· .1) "batch::batch") → Triple 𝓤
+          (WpFn 𝓤 H (𝓣 .C) (𝓣 .Λ) (fnOf 5 ps r xs m hs body)) (plainOf 𝓤 H A 5 ps r Pre· Post·)
 
     module _ where
       abbrev at0 : (bs : List ℕ) → TF T44 O0
@@ -997,32 +993,32 @@ module _ (claims· : Claims) where
                 Record-row (tyRef erased imm Record-pointed) 8)) d17
 
             d19 : Typed 𝓤 H A 𝓣 E G25 b16 Δ0 (at19 bs)
-            d19 = s-seq 𝓤 H A W 𝓣 E G25 G26 b14 b15 Δ0 (both (s24 bs)) (at18 bs) (t-call-plain 𝓤 H A W 𝓣 6 ps·0 r·0 (claims· .0) (claims· .1) "batch::batch" known E (λ pos β. β)
-                G25 (
-                  record { pos = 10; ty = tyRef erased mut (tyInt w16); ref = λ x. x },
+            d19 = s-seq 𝓤 H A W 𝓣 E G25 G26 b14 b15 Δ0 (both (s24 bs)) (at18 bs) (t-call-plain 𝓤 H A W 𝓣 6 ps·0 r·0 (claims· .0) (claims· .1) "batch::batch" known E (λ pos β. β) G25 (
+              record { pos = 10; ty = tyRef erased mut (tyInt w16); ref = λ x. x },
+              (
+                record { pos = 12; ty = tyRef erased mut (tyInt w16); ref = λ x. x },
+                (
+                  record {
+                    pos = 14;
+                    ty =
+                        tyRef erased mut (tyInt w16);
+                    ref = λ x. x;
+                  },
                   (
-                    record { pos = 12; ty = tyRef erased mut (tyInt w16); ref = λ x. x },
+                    record { pos = 19; ty = tyRef erased imm Record-pointed; ref = λ x. x },
                     (
                       record {
-                        pos = 14;
-                        ty = tyRef erased mut (tyInt w16);
+                        pos = 6;
+                        ty = tyRef (named 3) imm
+                            (tyInt w16);
                         ref = λ x. x;
                       },
-                      (
-                        record { pos = 19; ty = tyRef erased imm Record-pointed; ref = λ x. x },
-                        (
-                          record {
-                            pos = 6;
-                            ty = tyRef (named 3)
-                                imm (tyInt w16);
-                            ref = λ x. x;
-                          },
-                          (record { pos = 21; ty = tyRef erased mut (tyInt w16); ref = λ x. x }, tt),
-                        ),
-                      ),
+                      (record { pos = 21; ty = tyRef erased mut (tyInt w16); ref = λ x. x }, tt),
                     ),
                   ),
-                ) 0 (5 ∷ 6 ∷ 7 ∷ 8 ∷ 3 ∷ 9 ∷ []) (sub-id 𝓤 H A W (G25
+                ),
+              ),
+            ) 0 (5 ∷ 6 ∷ 7 ∷ 8 ∷ 3 ∷ 9 ∷ []) (sub-id 𝓤 H A W (G25
                 .slots)) (
                   as-is 𝓤 H A (mslice U16 (tyRef erased mut (tyInt w16)) 5),
                   reads-mslice 𝓤 H A W U16 (tyRef erased mut (tyInt w16)) 5,
@@ -1052,8 +1048,16 @@ module _ (claims· : Claims) where
                     ),
                   ),
                 ) (room-gone 𝓤 H A (tyEnum
-                (98 ∷ 97 ∷ 116 ∷ 99 ∷ 104 ∷ 105 ∷ 110 ∷ 103 ∷ 58 ∷ 58 ∷ 67 ∷ 97 ∷ 108 ∷ 108 ∷ 101 ∷ 100 ∷ []) (ttcons (tcons (tyInt w16) tnil) (ttcons (tcons (tyInt w64) tnil)
-                ttnil)))) (tt, (tt, (tt, (tt, (tt, (tt, tt)))))) refl) d18
+                (98 ∷ 97 ∷ 116 ∷ 99 ∷ 104 ∷ 58 ∷ 58 ∷ 67 ∷ 97 ∷ 108 ∷ 108 ∷ 101 ∷ 100 ∷ []) (ttcons (tcons (tyInt w16) tnil) (ttcons (tcons (tyInt w64) tnil) ttnil)))) (
+                  tt,
+                  (
+                    tt,
+                    (
+                      tt,
+                      (tt, (tt, (tt, tt))),
+                    ),
+                  ),
+                ) refl) d18
 
             d20 : Typed 𝓤 H A 𝓣 E G24 b17 Δ0 (at20 bs)
             d20 = s-seq 𝓤 H A W 𝓣 E G24 G25 b13 b16 Δ0 (ask (s23 bs)) (at19 bs) (t-sl-aggregate 𝓤 H A W E U16 𝓣 (asMut U16) G24 20 21 9 (tyRef erased mut (tyInt w16)) (tyRef erased

@@ -1,7 +1,7 @@
 use Rattle.batch.proofs.Carried.batch as Reads
 use Rattle.batch.proofs.batch.Met.{met}
 use Rattle.batch.proofs.batch.Symbol
-use Rattle.batch_words.proofs.batch_first.Code.{calls-batching·batch, env, function, unfolded}
+use Rattle.batch_words.proofs.batch_first.Code.{calls-batch·batch, env, function, unfolded}
 use Rattle.batch_words.proofs.batch_first.Code
 use Rattle.batch_words.proofs.batch_first.Key
 use Rattle.batch_words.proofs.batch_first.Kinds.{ps, r}
@@ -101,4 +101,4 @@ module _ {M : Type 1} where
         𝓖 = 𝓖;
         𝓡
             = 𝓡;
-      } env Symbol.name Symbol.routine calls-batching·batch (met 𝓤 H 𝓜 𝓖 𝓡))
+      } env Symbol.name Symbol.routine calls-batch·batch (met 𝓤 H 𝓜 𝓖 𝓡))

@@ -1,8 +1,9 @@
+-- `step_guards::earlier` meets its contract: the test of the first number decides. Assumes nothing.
 use Rattle.rules.specs.Refusals.{earlier}
 use borrow.Author.Needs.{needs}
 use Rattle.words.proofs.Tests.{tests}
-use Rattle.table_access.proofs.earlier.Statement.{statement}
-use Rattle.table_access.proofs.earlier.Tie as tie
+use Rattle.step_guards.proofs.earlier.Statement.{statement}
+use Rattle.step_guards.proofs.earlier.Tie as tie
 
 returns : tie.Need-returns
 unfolding earlier
