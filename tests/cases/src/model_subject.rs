@@ -67,9 +67,6 @@ impl Subject for ModelSubject {
     }
 
     fn is_sound(&mut self, tasks: &[u16], promises: &[u16]) -> u8 {
-        if tasks.is_empty() {
-            return 0;
-        }
         u8::from(self.model.is_sound(tasks, promises))
     }
 

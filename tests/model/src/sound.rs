@@ -18,9 +18,10 @@ impl Model {
         self.tables_within_bounds(tasks, promises) && report >= needed
     }
 
-    /// Whether two tables of words, of lengths within bounds, are sound.
+    /// Whether two tables of words are sound; those of lengths out of bounds are not.
     pub fn is_sound(&self, tasks: &[u16], promises: &[u16]) -> bool {
-        self.read_sound(tasks, promises).is_some()
+        let within = self.tables_within_bounds(tasks.len(), promises.len()) || self.is(Twist::LongTablesAreSound);
+        within && self.read_sound(tasks, promises).is_some()
     }
 
     /// The meanings of sound tables; nothing if they are damaged.

@@ -176,6 +176,7 @@ twists! {
     LiveBlamedIsSound, InSteps, "a blamed task may be live";
     UnusedBlamedIsSound, InSteps, "a blamed task may be unused";
     NoLiveTaskIsDamaged, InSteps, "tables without a live task are damaged";
+    LongTablesAreSound, InSteps, "the soundness test alone lets lengths out of bounds pass";
 
     // Wrong effects, answers and reports.
     OwnPromiseWaits, InSteps, "a task that gets its own promise waits";
