@@ -8,19 +8,19 @@ use native.Mathlib.Omega.{arith}
 use native.Mathlib.Decide.{ℕ-discrete}
 use borrow.Author.Tests.{eq-eqb, ne-eqb, le-leb, lt-leb}
 use lib.ListN.{length, set, length-set}
-use Rattle.words.specs.Words.{Form, readyWord, endedWord, firstOwned, setWord, unusedWord, unmadeWord, waitsOn, ownedBy, blamedOn}
+use Rattle.words.specs.Words.{Form, readyWord, endedWord, firstOwned, setWord, unusedWord, unmadeWord, firstWait, waitsOn, ownedBy, blamedOn}
 use Rattle.words.specs.Lists.{is, In}
 use Rattle.words.proofs.BoolLaws.{clash}
 use Rattle.words.proofs.ListLaws.{length-replaced, count-le, in-place}
 use Rattle.rules.specs.Tables.{Tables, taskAt, promiseAt, live}
 use Rattle.rules.specs.Chains.{Chain, here, Comes, chainEnd, view, waits}
-use Rattle.rules.specs.Sound.{Live, TaskWord, PromiseWord, unused, ready, ended, unmade, done, owned, blamed, Sound}
+use Rattle.rules.specs.Sound.{TaskWord, PromiseWord, unused, ready, ended, unmade, done, owned, blamed, Sound}
 use Rattle.rules.specs.Sound as sound
 use Rattle.rules.specs.Answers.{byNumber}
 use Rattle.rules.specs.Refusals.{first, entryRefusal, firstBad, newRows, getRows, ownRows, childRows}
 use Rattle.rules.specs.Steps.{Step, step-new, step-set, step-get, step-async, step-end, actor, Outcome, outcome, withMade, withSet, withWait, withStarted, withEnded, given, awaits, back, free, walkFrom, followed, got, guarded, rows, effect, raw}
 use Rattle.rules.specs.declared.Answer.the-variants.{Value, Blamed, Waits, Cycle}
-use Rattle.rules.proofs.BoundsLaws.{AsLong, as-long, long-tasks, long-promises, long-words}
+use Rattle.rules.proofs.BoundsLaws.{AsLong, as-long, long-tasks, long-promises, long-words, live-is}
 use Rattle.rules.proofs.GuardLaws.{guarded-is, got-cases, started-by}
 use Rattle.rules.proofs.Moves.{Moves, SoundMoves}
 use Rattle.rules.proofs.RefusalLaws.{Acts, actorRows-none, childRows-none, newRows-none, getRows-none, ownRows-none, entryRefusal-none, firstBad-before}
@@ -134,9 +134,9 @@ pub data Took (B : ℕ) (s : Tables) (t : ℕ) (s′ : Tables) : Type 0 where
 module _ (F : Form) (s : Tables) (fits : firstOwned + length (s .tasks) ≤ F .base) (sd : Sound (F .base) s) where
   -- an owner's chain comes to a ready task
   pub owner-chain : (q u : ℕ) → u < length (s .tasks) → promiseAt s q ≡ ownedBy u → Comes (waits s) u
-  owner-chain q u h o = go (sd .ownerLive q u h o) (sd .taskWord u)
+  owner-chain q u h o = go (live-is _ (sd .ownerLive q u h o)) (sd .taskWord u)
     where
-      go : Live (taskAt s u) → TaskWord (length (s .promises)) (taskAt s u) → Comes (waits s) u
+      go : (taskAt s u ≡ readyWord) ⊎ (firstWait ≤ taskAt s u) → TaskWord (length (s .promises)) (taskAt s u) → Comes (waits s) u
       go (inl e) w = ([], here e)
       go (inr b) (unused e) = absurd (omega arith)
       go (inr b) (ready e) = ([], here e)

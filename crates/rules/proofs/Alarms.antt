@@ -11,7 +11,7 @@ use lib.Seq.{getD-set-same, getD-set-other}
 use Rattle.words.specs.Words.{Form, readyWord, waitsOn, firstOwned, unmadeWord, setWord, ownedBy, blamedOn}
 use Rattle.words.specs.Lists.{In}
 use Rattle.words.proofs.ListLaws.{within-table}
-use Rattle.rules.specs.Tables.{Tables, taskAt, promiseAt, liveTasks}
+use Rattle.rules.specs.Tables.{Tables, roomOf, taskAt, promiseAt, liveTasks}
 use Rattle.rules.specs.Chains.{Chain, chainEnd, view, awaitedBy, ownerOf, graph, waits}
 use Rattle.rules.specs.Sound.{Sound, hop}
 use Rattle.rules.specs.Refusals.{getRows}
@@ -22,7 +22,7 @@ use Rattle.rules.specs.declared.Answer.the-variants.{Value, Blamed, Wait
 use Rattle.rules.proofs.GuardLaws.{guarded-none}
 use Rattle.rules.proofs.Accepted.{owner-chain, got-owned, got-back, got-free, got-set, got-blamed, got-is}
 use Rattle.rules.proofs.GraphLaws.{unique, end-ready, ready-is-end, in-end}
-use Rattle.rules.proofs.Kept.{fits, accepted-good, ready-passes}
+use Rattle.rules.proofs.Kept.{fits, accepted-good, accepted-room, ready-passes}
 use Rattle.rules.proofs.Moves.{det}
 use Rattle.rules.proofs.Named.{accepted}
 use Rattle.words.proofs.BoolLaws.{clash}
@@ -91,27 +91,27 @@ module _ (s : Tables) (t p : ℕ) where
       let c : suc m ≡ k = omega arith in
       subst (Stands (withWait s t p) t p) (ap (λ (i : ℕ). pairs i (view s) t p) c ∙ sym b ∙ sym (ap (λ (y : Outcome). y .words) e)) l
 
-module _ (F : Form) (apart : Apart F) (n : ℕ) (s : Tables) (g : Good F n s) where
+module _ (F : Form) (apart : Apart F) (n : ℕ) (s : Tables) (g : Good F s) (room : roomOf s ≤ n) where
   -- a get of a ready task on a promise that was made is not refused
   get-accepted : (t p : ℕ) → taskAt s t ≡ readyWord → promiseAt s p ≢ unmadeWord → step F n s (step-get t p) ≡ got (F .base) s t p (promiseAt s p)
   get-accepted t p r m =
       step-guarded F n s (step-get t p)
-      ∙ guarded-none _ _ s _ (ready-passes F apart n s g t r (getRows (s .promises) p) ∙ made-passes (s .promises) p m)
+      ∙ guarded-none _ _ s _ (ready-passes F apart n s g room t r (getRows (s .promises) p) ∙ made-passes (s .promises) p m)
 
   -- of a set promise it answers value, and of a blamed one who is blamed
   pub get-value : (t p : ℕ) → taskAt s t ≡ readyWord → promiseAt s p ≡ setWord → step F n s (step-get t p) ≡ outcome Value s []
-  get-value t p r o = get-accepted t p r (λ (z : promiseAt s p ≡ unmadeWord). omega arith) ∙ got-set F s (fits F apart n s (g .bounds)) t p o
+  get-value t p r o = get-accepted t p r (λ (z : promiseAt s p ≡ unmadeWord). omega arith) ∙ got-set F s (fits F apart s (g .sizes)) t p o
 
   pub get-blamed : (t p b : ℕ) → taskAt s t ≡ readyWord → promiseAt s p ≡ blamedOn (F .base) b → step F n s (step-get t p) ≡ outcome (Blamed b) s []
   get-blamed t p b r o =
-      get-accepted t p r (λ (z : promiseAt s p ≡ unmadeWord). omega (arith, apart)) ∙ got-blamed F s (fits F apart n s (g .bounds)) t p b o
+      get-accepted t p r (λ (z : promiseAt s p ≡ unmadeWord). omega (arith, apart)) ∙ got-blamed F s (fits F apart s (g .sizes)) t p b o
 
   -- where the asker is one of the owners, it alarms
   pub get-alarms : (t p : ℕ) (l : List ℕ) → taskAt s t ≡ readyWord → OwnersFrom s p l → In t l → step F n s (step-get t p) ≡ outcome (Cycle (length l)) s (pairs (length l) (view s) t p)
   unfolding followed
   get-alarms t p l r (owners {u = u} {l = k} h o c) i =
       get-accepted t p r (λ (z : promiseAt s p ≡ unmadeWord). omega arith)
-      ∙ got-back F s (fits F apart n s (g .bounds)) (g .sound) t p u r h o c (sym (ready-is-end (waits s) (det (length (s .tasks)) (view s)) c i r))
+      ∙ got-back F s (fits F apart s (g .sizes)) (g .sound) t p u r h o c (sym (ready-is-end (waits s) (det (length (s .tasks)) (view s)) c i r))
       ∙ ap (λ (x : ℕ). followed s t p (back x)) (omega arith)
 
   -- where it is not, it waits, and from then on these owners are its chain
@@ -122,7 +122,7 @@ module _ (F : Form) (apart : Apart F) (n : ℕ) (s : Tables) (g : Good F n s) wh
       let far : chainEnd u k ≢ t = λ (z : chainEnd u k ≡ t). i (subst (λ (x : ℕ). In x (u ∷ k)) z (in-end u k)) in
       let b : t < length (s .tasks) = within-table (s .tasks) t (λ (z : taskAt s t ≡ 0). omega arith) in
       let q : p < length (s .promises) = within-table (s .promises) p (λ (z : promiseAt s p ≡ 0). omega arith) in
-      let f = fits F apart n s (g .bounds) in (
+      let f = fits F apart s (g .sizes) in (
         get-accepted t p r (λ (z : promiseAt s p ≡ unmadeWord). omega arith) ∙ got-free F s f (g .sound) t p u r h o c far ∙ ap (λ (x : ℕ). followed s t p (free x)) (omega arith),
         subst (λ (x : ℕ). Chain (graph x (view (withWait s t p))) t (u ∷ k)) (sym (length-set (s .tasks) t (waitsOn p)))
             (get-chain (length (s .tasks)) (length (s .promises)) (F .base) f s (g .sound) t b r p u h o q b k c far),
@@ -133,7 +133,7 @@ module _ (F : Form) (apart : Apart F) (n : ℕ) (s : Tables) (g : Good F n s) wh
 module _ (F : Form) (apart : Apart F) (n : ℕ) (s : Tables) where
   -- a get that is not refused is one of a ready task, on a promise that was made, in good tables
   get-found : (t p : ℕ) (a : Answer) → (Refusal a → ⊥) → step F n s (step-get t p) .answer ≡ a
-      → Good F n s × Acts (s .tasks) t × (p < length (s .promises)) × (promiseAt s p ≢ unmadeWord) × (step F n s (step-get t p) ≡ got (F .base) s t p (promiseAt s p))
+      → Good F s × Acts (s .tasks) t × (p < length (s .promises)) × (promiseAt s p ≢ unmadeWord) × (step F n s (step-get t p) ≡ got (F .base) s t p (promiseAt s p))
   get-found t p a h e =
       let (z, o) = accepted F n s (step-get t p) a h e in
       let (act, z₁) = actorRows-none (s .tasks) t (getRows (s .promises) p) z in
@@ -144,7 +144,7 @@ module _ (F : Form) (apart : Apart F) (n : ℕ) (s : Tables) where
   unfolding followed
   alarm-means t p k e =
       let (g, act, h, m, o) = get-found t p (Cycle k) (λ r. elim r [ ]) e in
-      let f = fits F apart n s (g .bounds) in
+      let f = fits F apart s (g .sizes) in
       got-is F s f (g .sound) t p (λ (x : Outcome). x .answer ≡ Cycle k → Alarm s t p k (step F n s (step-get t p) .words)) (act .ready) h m
       (λ x (z : Value ≡ Cycle k). clash cc)
       (λ b y x (z : Blamed b ≡ Cycle k). clash cc)
@@ -154,7 +154,7 @@ module _ (F : Form) (apart : Apart F) (n : ℕ) (s : Tables) where
         ready = act .ready;
         links = u ∷ l;
         owners = owners b w c;
-        back = y;
+        back = subst (λ (x : ℕ). In x (u ∷ l)) y (in-end u l);
         count = omega arith;
         ring = followed-stands s t p (act .below) k u w (step F n s (step-get t p)) (o ∙ got-owned F s f t p u b w) e;
       })
@@ -167,7 +167,7 @@ module _ (F : Form) (apart : Apart F) (n : ℕ) (s : Tables) where
   wait-means t p k e =
       let (g, act, h, m, o) = get-found t p (Waits k) (λ r. elim r [ ]) e in
       let r = act .ready in
-      got-is F s (fits F apart n s (g .bounds)) (g .sound) t p (λ (x : Outcome). x .answer ≡ Waits k → Wait s t p k) r h m
+      got-is F s (fits F apart s (g .sizes)) (g .sound) t p (λ (x : Outcome). x .answer ≡ Waits k → Wait s t p k) r h m
       (λ x (z : Value ≡ Waits k). clash cc)
       (λ b y x (z : Blamed b ≡ Waits k). clash cc)
       (λ u l b w c y (z : Cycle (1 + length l) ≡ Waits k). clash cc)
@@ -189,7 +189,7 @@ module _ (F : Form) (apart : Apart F) (n : ℕ) (s : Tables) where
   value-means t p e =
       let (g, act, h, m, o) = get-found t p Value (λ r. elim r [ ]) e in (
         act .ready,
-        got-is F s (fits F apart n s (g .bounds)) (g .sound) t p (λ (x : Outcome). x .answer ≡ Value → promiseAt s p ≡ setWord) (act .ready) h m
+        got-is F s (fits F apart s (g .sizes)) (g .sound) t p (λ (x : Outcome). x .answer ≡ Value → promiseAt s p ≡ setWord) (act .ready) h m
             (λ x z. x)
             (λ b y x (z : Blamed b ≡ Value). clash cc)
             (λ u l b w c y (z : Cycle (1 + length l) ≡ Value). clash cc)
@@ -202,7 +202,7 @@ module _ (F : Form) (apart : Apart F) (n : ℕ) (s : Tables) where
   blamed-means t p b e =
       let (g, act, h, m, o) = get-found t p (Blamed b) (λ r. elim r [ ]) e in (
         act .ready,
-        got-is F s (fits F apart n s (g .bounds)) (g .sound) t p (λ (x : Outcome). x .answer ≡ Blamed b → promiseAt s p ≡ blamedOn (F .base) b) (act .ready) h m
+        got-is F s (fits F apart s (g .sizes)) (g .sound) t p (λ (x : Outcome). x .answer ≡ Blamed b → promiseAt s p ≡ blamedOn (F .base) b) (act .ready) h m
             (λ x (z : Value ≡ Blamed b). clash cc)
             (λ c y x (z : Blamed c ≡ Blamed b). let k : c ≡ b = cc in x ∙ ap (blamedOn (F .base)) k)
             (λ u l x w c y (z : Cycle (1 + length l) ≡ Blamed b). clash cc)
@@ -215,7 +215,5 @@ module _ (F : Form) (apart : Apart F) (n : ℕ) (s : Tables) where
   alarm-unchanged t p k e =
       let a = alarm-means t p k e in
       let g = accepted-good F apart n s (step-get t p) (Cycle k) (λ r. elim r [ ]) e in
-      ap (λ (o : Outcome). o .after) (get-alarms F apart n s g t p (a .links) (a .ready) (a .owners) (last-in (a .links) (a .back) (a .owners)))
-    where
-      last-in : (l : List ℕ) → chainEnd t l ≡ t → OwnersFrom s p l → In t l
-      last-in l z (owners {u = u} {l = k′} h o c) = subst (λ (x : ℕ). In x (u ∷ k′)) z (in-end u k′)
+      let room = accepted-room F apart n s (step-get t p) (Cycle k) (λ r. elim r [ ]) e in
+      ap (λ (o : Outcome). o .after) (get-alarms F apart n s g room t p (a .links) (a .ready) (a .owners) (a .back))

@@ -3,14 +3,14 @@
 use mathlib.Core.Path.{_≡_, refl, sym, ap, _∙_}
 use mathlib.Core.Logic.{_⊎_, inl, inr, _≢_}
 use mathlib.Core.Bool.{Bool, true, false, cond}
-use Prim.Native.Nat.{ℕ, _≤_, _<_}
+use Prim.Native.Nat.{ℕ, _-_, _≤_, _<_}
 use native.Mathlib.Omega.{arith}
 use lib.Dec.{eqb}
 use borrow.Author.Tests.{eqb-true, eqb-false}
 use lib.ListN.{getD}
 use Rattle.words.specs.Words.{Form}
 use Rattle.rules.specs.Tables.{Tables}
-use Rattle.rules.specs.Answers.{laid, numberOf, valuesOf, answerOf, refusedWith, refusedAtWith}
+use Rattle.rules.specs.Answers.{laid, numberOf, valuesOf, accepted, answerOf, refusedWith, refusedAtWith}
 use Rattle.rules.specs.Steps.{Step, step-new, step-set, step-get, step-async, step-end, stepRefused}
 use Rattle.rules.specs.Demands.{Refusal, plain, placed, blamed, blamed-at}
 use Rattle.rules.specs.declared.Answer.{Answer}
@@ -22,19 +22,20 @@ pub record Accepted (a : Answer) : Type 0 where
   pub from-100 : 100 ≤ numberOf a
   pub low : numberOf a < 1000
   pub told : answerOf (numberOf a) (valuesOf a) ≡ a
+  pub read : getD (accepted (laid a .first .value) (laid a .second .value)) (numberOf a - 100) Opened ≡ a
   pub accepts : laid a .refuses ≡ false
 
 pub accepted-or-refused : (a : Answer) → Accepted a ⊎ Refusal a
 unfolding laid answerOf
-accepted-or-refused Opened = inl (record { from-100 = omega arith; low = omega arith; told = refl; accepts = refl })
-accepted-or-refused Made = inl (record { from-100 = omega arith; low = omega arith; told = refl; accepts = refl })
-accepted-or-refused (Set n) = inl (record { from-100 = omega arith; low = omega arith; told = refl; accepts = refl })
-accepted-or-refused Value = inl (record { from-100 = omega arith; low = omega arith; told = refl; accepts = refl })
-accepted-or-refused (Blamed b) = inl (record { from-100 = omega arith; low = omega arith; told = refl; accepts = refl })
-accepted-or-refused (Waits k) = inl (record { from-100 = omega arith; low = omega arith; told = refl; accepts = refl })
-accepted-or-refused (Cycle k) = inl (record { from-100 = omega arith; low = omega arith; told = refl; accepts = refl })
-accepted-or-refused Started = inl (record { from-100 = omega arith; low = omega arith; told = refl; accepts = refl })
-accepted-or-refused (Ended m n) = inl (record { from-100 = omega arith; low = omega arith; told = refl; accepts = refl })
+accepted-or-refused Opened = inl (record { from-100 = omega arith; low = omega arith; told = refl; read = refl; accepts = refl })
+accepted-or-refused Made = inl (record { from-100 = omega arith; low = omega arith; told = refl; read = refl; accepts = refl })
+accepted-or-refused (Set n) = inl (record { from-100 = omega arith; low = omega arith; told = refl; read = refl; accepts = refl })
+accepted-or-refused Value = inl (record { from-100 = omega arith; low = omega arith; told = refl; read = refl; accepts = refl })
+accepted-or-refused (Blamed b) = inl (record { from-100 = omega arith; low = omega arith; told = refl; read = refl; accepts = refl })
+accepted-or-refused (Waits k) = inl (record { from-100 = omega arith; low = omega arith; told = refl; read = refl; accepts = refl })
+accepted-or-refused (Cycle k) = inl (record { from-100 = omega arith; low = omega arith; told = refl; read = refl; accepts = refl })
+accepted-or-refused Started = inl (record { from-100 = omega arith; low = omega arith; told = refl; read = refl; accepts = refl })
+accepted-or-refused (Ended m n) = inl (record { from-100 = omega arith; low = omega arith; told = refl; read = refl; accepts = refl })
 accepted-or-refused (Refused r) = inr (plain r)
 accepted-or-refused (RefusedAt r i) = inr (placed r i)
 accepted-or-refused (RefusedBlamed b) = inr (blamed b)

@@ -11,12 +11,12 @@ use lib.ListN.{length, getD}
 use Rattle.words.specs.Words.{Form, firstOwned, readyWord, endedWord, setWord, blamedOn}
 use Rattle.words.specs.Lists.{allBelow}
 use Rattle.words.proofs.BoolLaws.{clash}
-use Rattle.rules.specs.Tables.{Tables, taskAt, promiseAt, blamedTask, inBounds}
+use Rattle.rules.specs.Tables.{Tables, roomOf, taskAt, promiseAt, blamedTask, inBounds}
 use Rattle.rules.specs.Chains.{view}
 use Rattle.rules.specs.Sound.{PromiseWord, unmade, done, owned, blamed, soundTest}
 use Rattle.rules.specs.Refusals.{Row, first, tableRows, ownRows, entryRows, differs}
 use Rattle.rules.specs.Answers.{refusedWith, refusedAtWith}
-use Rattle.rules.specs.Steps.{Step, step-set, step-async, actor, Outcome, outcome, rows, stepRefused, effect, step, run}
+use Rattle.rules.specs.Steps.{step-set, step-async, actor, Outcome, outcome, rows, stepRefused, effect, step, LentStep, run}
 use Rattle.rules.specs.Demands.{Apart, Good, NoneGiven, BadPlace}
 use Rattle.rules.specs.declared.Answer.{Answer}
 use Rattle.rules.specs.declared.Answer.the-variants.{Set, Refused, RefusedAt, RefusedBlamed, RefusedBlamedAt}
@@ -51,12 +51,12 @@ module _ (F : Form) (apart : Apart F) (n : ℕ) (s : Tables) where
         (act .ready, e₂)
 
     -- and is given where that row is the first to apply
-    own-gives : Good F n s → taskAt s t ≡ readyWord → (q : ℕ) → q ≢ 0 → first own ≡ q → step F n s (step-set t p) ≡ outcome (stepRefused F s (step-set t p) q) s []
-    own-gives g r q m e = first-refused F n s (step-set t p) q (first-given _ q m (ready-passes F apart n s g t r own ∙ e))
+    own-gives : Good F s → roomOf s ≤ n → taskAt s t ≡ readyWord → (q : ℕ) → q ≢ 0 → first own ≡ q → step F n s (step-set t p) ≡ outcome (stepRefused F s (step-set t p) q) s []
+    own-gives g room r q m e = first-refused F n s (step-set t p) q (first-given _ q m (ready-passes F apart n s g room t r own ∙ e))
 
-    pub set-nine : Good F n s → taskAt s t ≡ readyWord → promiseAt s p ≡ setWord → step F n s (step-set t p) ≡ outcome (Refused 9) s []
+    pub set-nine : Good F s → roomOf s ≤ n → taskAt s t ≡ readyWord → promiseAt s p ≡ setWord → step F n s (step-set t p) ≡ outcome (Refused 9) s []
     unfolding refusedWith
-    set-nine g r e = own-gives g r 9 (eqb-false 9 0 refl) (set-is-nine (F .base) (s .promises) t p [] e)
+    set-nine g room r e = own-gives g room r 9 (eqb-false 9 0 refl) (set-is-nine (F .base) (s .promises) t p [] e)
 
     pub nine-set : step F n s (step-set t p) .answer ≡ Refused 9 → (taskAt s t ≡ readyWord) × (promiseAt s p ≡ setWord)
     nine-set e =
@@ -64,10 +64,10 @@ module _ (F : Form) (apart : Apart F) (n : ℕ) (s : Tables) where
         let (r, e₁) = own-given 9 (omega arith) (given-first (refused-first F n s (step-set t p) 9 (e ∙ sym plain))) in
         (r, ownRows-nine (F .base) (s .promises) t p [] (no-rows 9 (eqb-false 9 0 refl)) e₁)
 
-    pub set-blamed : Good F n s → (b : ℕ) → taskAt s t ≡ readyWord → promiseAt s p ≡ blamedOn (F .base) b → step F n s (step-set t p) ≡ outcome (RefusedBlamed b) s []
+    pub set-blamed : Good F s → roomOf s ≤ n → (b : ℕ) → taskAt s t ≡ readyWord → promiseAt s p ≡ blamedOn (F .base) b → step F n s (step-set t p) ≡ outcome (RefusedBlamed b) s []
     unfolding refusedWith
-    set-blamed g b r e =
-        own-gives g r 17 (eqb-false 17 0 refl) (blamed-is-17 (F .base) (s .promises) t p [] (omega (arith, apart)) (omega arith))
+    set-blamed g room b r e =
+        own-gives g room r 17 (eqb-false 17 0 refl) (blamed-is-17 (F .base) (s .promises) t p [] (omega (arith, apart)) (omega arith))
         ∙ ap (λ (x : ℕ). outcome (RefusedBlamed x) s []) (omega arith)
 
     pub blamed-set : (b : ℕ) → step F n s (step-set t p) .answer ≡ RefusedBlamed b → (taskAt s t ≡ readyWord) × (promiseAt s p ≡ blamedOn (F .base) b)
@@ -132,13 +132,13 @@ module _ (F : Form) (apart : Apart F) (n : ℕ) (s : Tables) where
 
   -- ---- who is told
 
-  pub blamed-ended : Good F n s → (p b : ℕ) → promiseAt s p ≡ blamedOn (F .base) b → (b < length (s .tasks)) × (taskAt s b ≡ endedWord)
+  pub blamed-ended : Good F s → (p b : ℕ) → promiseAt s p ≡ blamedOn (F .base) b → (b < length (s .tasks)) × (taskAt s b ≡ endedWord)
   blamed-ended g p b e = go (g .sound .promiseWord p)
     where
       go : PromiseWord (length (s .tasks)) (F .base) (promiseAt s p) → (b < length (s .tasks)) × (taskAt s b ≡ endedWord)
       go (unmade z) = absurd (omega (arith, apart))
       go (done z) = absurd (omega (arith, apart))
-      go (owned u h z) = absurd (omega (arith, fits F apart n s (g .bounds)))
+      go (owned u h z) = absurd (omega (arith, fits F apart s (g .sizes)))
       go (blamed u h z) = let x : b ≡ u = omega arith in (omega arith, g .sound .blamedEnded p b (omega arith) e)
 
   -- a step leaves the word of a blamed promise: what it changes was unmade, or owned by the actor
@@ -154,9 +154,9 @@ module _ (F : Form) (apart : Apart F) (n : ℕ) (s : Tables) where
       go k (p-moved d x e z w) = absurd (omega arith)
 
 -- after any steps
-pub blame-stays : (F : Form) (apart : Apart F) (n : ℕ) (s : Tables) (xs : List Step) → Good F n s → (p b : ℕ) → promiseAt s p ≡ blamedOn (F .base) b
-    → promiseAt (run F n s xs) p ≡ blamedOn (F .base) b
-blame-stays F apart n s [] g p b h = h
-blame-stays F apart n s (x ∷ xs) g p b h =
-    blame-stays F apart n (step F n s x .after) xs (good-step F apart n s x g) p b
-    (word-stays F apart n s (step F n s x .after) (actor x) (fits F apart n s (g .bounds)) (took-step F apart n s x) p b h)
+pub blame-stays : (F : Form) (apart : Apart F) (s : Tables) (xs : List LentStep) → Good F s → (p b : ℕ)
+    → promiseAt s p ≡ blamedOn (F .base) b → promiseAt (run F s xs) p ≡ blamedOn (F .base) b
+blame-stays F apart s [] g p b h = h
+blame-stays F apart s ((n, x) ∷ xs) g p b h =
+    blame-stays F apart (step F n s x .after) xs (good-step F apart n s x g) p b
+    (word-stays F apart n s (step F n s x .after) (actor x) (fits F apart s (g .sizes)) (took-step F apart n s x) p b h)

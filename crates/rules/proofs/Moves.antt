@@ -1,14 +1,16 @@
 -- What an accepted step may do to one word, and what follows: links that do not lead to the acting task stay (`frame`), and sound tables stay sound
 -- (`sound-step`). A new step is one more proof of `Moves` and `SoundMoves`; nothing else moves. Assumes nothing.
 use mathlib.Core.Path.{_≡_, sym, ap, subst, _∙_}
-use mathlib.Core.Logic.{inl, inr, _≢_}
+use mathlib.Core.Logic.{_≢_}
 use mathlib.Core.List.{[], _∷_}
 use Prim.Native.Nat.{ℕ, _+_, _≤_, _<_}
 use native.Mathlib.Omega.{arith}
 use native.Mathlib.Decide.{ℕ-discrete}
 use Rattle.words.specs.Words.{unusedWord, readyWord, endedWord, waitsOn, unmadeWord, setWord, ownedBy, blamedOn}
+use Rattle.rules.specs.Tables.{Live}
 use Rattle.rules.specs.Chains.{here, link, Comes, View, WaitsFor, graph}
-use Rattle.rules.specs.Sound.{TaskWord, ready, ended, waits, PromiseWord, done, owned, blamed, Live, SoundView}
+use Rattle.rules.specs.Sound.{TaskWord, ready, ended, waits, PromiseWord, done, owned, blamed, SoundView}
+use Rattle.rules.proofs.BoundsLaws.{live-ready, live-waits}
 use Rattle.rules.proofs.GraphLaws.{Det, Frame, grounds}
 
 pub det : (T : ℕ) (s : View) → Det (graph T s)
@@ -109,21 +111,21 @@ module _ (T P B : ℕ) (fits : 16 + T ≤ B) (s s′ : View) (t : ℕ) (sd : Sou
 
   live-stays : (q u : ℕ) → s′ .promise q ≡ ownedBy u → TaskMove P B s s′ t u → Live (s .task u) → Live (s′ .task u)
   live-stays q u o (t-same e) l = subst Live (sym e) l
-  live-stays q u o (t-woken p a b c) l = inl c
-  live-stays q u o (t-started a b) l = inl b
+  live-stays q u o (t-woken p a b c) l = live-ready _ c
+  live-stays q u o (t-started a b) l = live-ready _ b
   live-stays q u o (t-ended e a) l = absurd (st .left (ap (s′ .task) (sym e) ∙ a) q (o ∙ ap (ownedBy) e))
-  live-stays q u o (t-waits p b e a) l = inr (omega arith)
+  live-stays q u o (t-waits p b e a) l = live-waits (s′ .task u) (omega arith)
 
   ownerLives : (q u : ℕ) → u < T → s′ .promise q ≡ ownedBy u → PromiseMove T B s s′ t q → Live (s′ .task u)
   ownerLives q u h o (p-same e) = live-stays q u o (st .moves .task u) (sd .ownerLive q u h (sym e ∙ o))
   ownerLives q u h o (p-made a b) =
       let e : t ≡ u = omega arith in
-      live-stays q u o (st .moves .task u) (inl (ap (s .task) (sym e) ∙ st .moves .acts))
+      live-stays q u o (st .moves .task u) (live-ready _ (ap (s .task) (sym e) ∙ st .moves .acts))
   ownerLives q u h o (p-set a b) = absurd (omega arith)
   ownerLives q u h o (p-blamed a b c) = absurd (omega arith)
   ownerLives q u h o (p-moved c x a b f) =
       let e : c ≡ u = omega arith in
-      inl (ap (s′ .task) (sym e) ∙ f)
+      live-ready _ (ap (s′ .task) (sym e) ∙ f)
 
   ended-stays : (q u : ℕ) → s′ .promise q ≡ blamedOn B u → s .task u ≡ endedWord → TaskMove P B s s′ t u → s′ .task u ≡ endedWord
   ended-stays q u o z (t-same e) = e ∙ z

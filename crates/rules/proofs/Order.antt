@@ -325,7 +325,7 @@ number-refuses a h = go (accepted-or-refused a)
 
 -- ---- a step is refused by a number of its own
 
-given-in : {rows : List Row} {r : ℕ} → FirstGiven r rows → In r (numbers rows)
+pub given-in : {rows : List Row} {r : ℕ} → FirstGiven r rows → In r (numbers rows)
 given-in now = top
 given-in (later g) = pop (given-in g)
 

@@ -7,15 +7,46 @@ use mathlib.Core.Bool.{true}
 use Prim.Native.Nat.{ℕ, _+_, _≤_, _<_}
 use lib.Dec.{ltb, lit≤}
 use lib.ListN.{length, getD, replicate}
-use Rattle.words.specs.Words.{Form, small, roomFor, unusedWord, readyWord, endedWord, waitsOn, unmadeWord, setWord, firstOwned, ownedBy, blamedOn}
+use Rattle.words.specs.Words.{Form, small, unusedWord, readyWord, endedWord, waitsOn, unmadeWord, setWord, firstOwned, ownedBy, blamedOn}
 use Rattle.words.specs.Lists.{In}
-use Rattle.rules.specs.Tables.{Tables, tables, taskAt, promiseAt, liveTasks, closed, blamedTask, fresh, inBounds}
+use Rattle.rules.specs.Tables.{
+  Tables,
+  tables,
+  sizesFit,
+  roomOf,
+  taskAt,
+  promiseAt,
+  Live,
+  liveTasks,
+  closed,
+  blamedTask,
+  fresh,
+}
 use Rattle.rules.specs.Chains.{Chain, waits, view}
-use Rattle.rules.specs.Sound.{Live, Sound, soundTest}
-use Rattle.rules.specs.Answers.{laid, numberOf, valuesOf, wordCount, answerOf, refusedAtWith}
+use Rattle.rules.specs.Sound.{Sound, soundTest}
+use Rattle.rules.specs.Answers.{laid, numberOf, valuesOf, wordCount, answerOf, SameWords, refusedAtWith}
 use Rattle.rules.specs.Refusals.{tableRows, entryRows}
-use Rattle.rules.specs.Steps.{Step, step-new, step-set, step-get, step-async, step-end, Outcome, outcome, withWait, pairs, rows, stepRefused, step, untested, ran, run}
-use Rattle.rules.specs.ProvedSet.{provedSet, blamedSet, ringSet, taken, takenUntested, expected}
+use Rattle.rules.specs.Steps.{
+  Step,
+  step-new,
+  step-set,
+  step-get,
+  step-async,
+  step-end,
+  Outcome,
+  outcome,
+  withWait,
+  pairs,
+  rows,
+  stepRefused,
+  step,
+  untested,
+  LentStep,
+  ran,
+  run,
+}
+use Rattle.rules.specs.ProvedSet.{provedSet, taken, expected}
+use Rattle.rules.specs.LaterSets.{blamedSet, ringSet, takenUntested}
 use Rattle.rules.specs.Demands.{Apart, Good, numbers, paperRows, paperEntryRows, paperNumbers, FirstGiven, NoneGiven, BadPlace, Refusal, HowRefused, OwnersFrom, Alarm, Wait, Named, Woken, Demand3, hadWaited, Pair, Stands, RunsInto}
 use Rattle.rules.specs.Published.{NewRule, SetRule, SpawnRule, GetRule, EndRule, Asserted}
 use Rattle.rules.specs.Contracts.{Gives, Freshens}
@@ -40,7 +71,7 @@ use Rattle.rules.proofs.Waiting as waiting
 -- ---- the proved set
 
 pub the-proved-set : map taken provedSet ≡ map expected provedSet
-the-proved-set = cases.proved-sets .0
+the-proved-set = cases.proved-set
 
 pub small-apart : Apart small
 small-apart = lit≤ tt
@@ -111,6 +142,12 @@ module _ (F : Form) (n : ℕ) (s : Tables) where
   pub a-number-below-100-is-laid-out-as-a-refusal : (x : Step) → laid (step F n s x .answer) .refuses ≡ ltb (numberOf (step F n s x .answer)) 100
   a-number-below-100-is-laid-out-as-a-refusal x = told.step-told F n s x .1
 
+  -- so, for one given step, do the four words: the number and the three values, 0 where there is none. Whatever the tables and the
+  -- report, two answers to it with the same four words are the same
+  pub the-four-words-tell-the-answer : (x : Step) (n′ : ℕ) (s′ : Tables)
+      → SameWords (step F n s x .answer) (step F n′ s′ x .answer) → step F n s x .answer ≡ step F n′ s′ x .answer
+  the-four-words-tell-the-answer x n′ s′ = told.words-tell F x n n′ s s′
+
   -- a place is at most P, however long the list is
   pub a-place-is-at-most-P : (t c : ℕ) (list : List ℕ) (r i b : ℕ) → step F n s (step-async t c list) .answer ≡ refusedAtWith b i r → i ≤ length (s .promises)
   a-place-is-at-most-P = order.placed-within F n s
@@ -123,7 +160,7 @@ module _ (F : Form) (n : ℕ) (s : Tables) where
   pub the-answer-counts-its-words : (x : Step) → length (step F n s x .words) ≡ wordCount (step F n s x .answer)
   the-answer-counts-its-words = counts.step-counted F n s
 
-  pub the-words-have-room : (x : Step) → length (step F n s x .words) ≤ roomFor (length (s .tasks)) (length (s .promises))
+  pub the-words-have-room : (x : Step) → length (step F n s x .words) ≤ roomOf s
   the-words-have-room = counts.step-room F s n
 
 -- any two outcomes that the contract of a step allows coincide
@@ -172,27 +209,51 @@ module _ (F : Form) (n : ℕ) (s : Tables) where
 
 -- ---- DEMAND 2
 
--- in good tables ..
-module _ (F : Form) (apart : Apart F) (n : ℕ) (s : Tables) (good : Good F n s) where
+-- good tables: fresh ones, and whatever steps make of good ones. A step, with whatever report, leaves the tables as long as they were,
+-- so that a report which has room for them still has it
+pub fresh-tables-are-good : (F : Form) → Apart F → (T P : ℕ) → 1 ≤ T → T ≤ F .mostTasks → P ≤ F .mostPromises
+    → Good F (fresh T P)
+fresh-tables-are-good F apart T P some = kept.fresh-good T P some F apart
+
+module _ (F : Form) (apart : Apart F) (n : ℕ) (s : Tables) (x : Step) where
+  pub a-step-leaves-good-tables-good : Good F s → Good F (step F n s x .after)
+  a-step-leaves-good-tables-good = kept.good-step F apart n s x
+
+  pub a-step-leaves-the-lengths : (length (step F n s x .after .tasks) ≡ length (s .tasks))
+      × (length (step F n s x .after .promises) ≡ length (s .promises))
+  a-step-leaves-the-lengths = let l = kept.step-lengths F apart n s x in (l .tasks, l .promises)
+
+-- and so do any steps, each with a report of its own
+module _ (F : Form) (apart : Apart F) (s : Tables) (xs : List LentStep) where
+  pub steps-leave-good-tables-good : Good F s → Good F (run F s xs)
+  steps-leave-good-tables-good = kept.good-run F apart s xs
+
+  pub steps-leave-the-lengths : (length (run F s xs .tasks) ≡ length (s .tasks))
+      × (length (run F s xs .promises) ≡ length (s .promises))
+  steps-leave-the-lengths = let l = kept.run-lengths F apart s xs in (l .tasks, l .promises)
+
+-- in good tables, with a report that has room ..
+module _ (F : Form) (apart : Apart F) (n : ℕ) (s : Tables) (good : Good F s) (room : roomOf s ≤ n) where
   -- "if p is set, answer value. If p is blamed on b, answer blamed b", and nothing changes
   pub value-if-set : (t p : ℕ) → taskAt s t ≡ readyWord → promiseAt s p ≡ setWord → step F n s (step-get t p) ≡ outcome Value s []
-  value-if-set = alarms.get-value F apart n s good
+  value-if-set = alarms.get-value F apart n s good room
 
   pub blamed-if-blamed : (t p b : ℕ) → taskAt s t ≡ readyWord → promiseAt s p ≡ blamedOn (F .base) b → step F n s (step-get t p) ≡ outcome (Blamed b) s []
-  blamed-if-blamed = alarms.get-blamed F apart n s good
+  blamed-if-blamed = alarms.get-blamed F apart n s good room
 
   -- "A get alarms exactly when the chain of owners and waits leads back to the asker", and then reports that ring and changes no table
   pub alarms-if-back : (t p : ℕ) (l : List ℕ) → taskAt s t ≡ readyWord → OwnersFrom s p l → In t l → step F n s (step-get t p) ≡ outcome (Cycle (length l)) s (pairs (length l) (view s) t p)
-  alarms-if-back = alarms.get-alarms F apart n s good
+  alarms-if-back = alarms.get-alarms F apart n s good room
 
   -- otherwise it waits, and the owners reached are its chain
   pub waits-if-not-back : (t p : ℕ) (l : List ℕ) → taskAt s t ≡ readyWord → OwnersFrom s p l → (In t l → ⊥)
       → (step F n s (step-get t p) ≡ outcome (Waits (length l)) (withWait s t p) []) × Chain (waits (withWait s t p)) t l
-  waits-if-not-back = alarms.get-waits F apart n s good
+  waits-if-not-back = alarms.get-waits F apart n s good room
 
-  -- the owners from a promise: one list for each owned promise, with at most as many as there are live tasks
+-- the owners from a promise: one list for each owned promise, with at most as many as there are live tasks
+module _ (F : Form) (apart : Apart F) (s : Tables) (good : Good F s) where
   pub owners-exist : (p u : ℕ) → u < length (s .tasks) → promiseAt s p ≡ ownedBy u → (l : List ℕ) × OwnersFrom s p l
-  owners-exist = alarms.owners-some F s (kept.fits F apart n s (good .bounds)) (good .sound)
+  owners-exist = alarms.owners-some F s (kept.fits F apart s (good .sizes)) (good .sound)
 
   pub owners-unique : (p : ℕ) (l l′ : List ℕ) → OwnersFrom s p l → OwnersFrom s p l′ → l ≡ l′
   owners-unique = alarms.owners-one s
@@ -231,51 +292,59 @@ module _ (F : Form) (apart : Apart F) (n : ℕ) (s : Tables) where
 pub sound-stays-sound : (F : Form) → Apart F → (n : ℕ) (s : Tables) → Sound (F .base) s → (x : Step) → Sound (F .base) (step F n s x .after)
 sound-stays-sound = kept.sound-kept
 
--- "A number is used once in a session": from any tables, after any steps, a promise that was made is still made and a task that was used is still used
-pub a-number-is-used-once : (F : Form) → Apart F → (n : ℕ) (s : Tables) (xs : List Step)
-    → ((p : ℕ) → promiseAt s p ≢ unmadeWord → promiseAt (run F n s xs) p ≢ unmadeWord) × ((t : ℕ) → taskAt s t ≢ unusedWord → taskAt (run F n s xs) t ≢ unusedWord)
-a-number-is-used-once F apart n s xs = (once.promise-stays-made F apart n s xs, once.task-stays-used F apart n s xs)
+-- "A number is used once in a session": from any tables, after any steps, each with a report of its own, a promise that was made is
+-- still made and a task that was used is still used
+pub a-number-is-used-once : (F : Form) → Apart F → (s : Tables) (xs : List LentStep)
+    → ((p : ℕ) → promiseAt s p ≢ unmadeWord → promiseAt (run F s xs) p ≢ unmadeWord)
+    × ((t : ℕ) → taskAt s t ≢ unusedWord → taskAt (run F s xs) t ≢ unusedWord)
+a-number-is-used-once F apart s xs = (once.promise-stays-made F apart s xs, once.task-stays-used F apart s xs)
 
 -- so that the promise is not made again, and the task not started again
-pub not-made-again : (F : Form) → Apart F → (n : ℕ) (s : Tables) (p : ℕ) → promiseAt s p ≢ unmadeWord → (xs : List Step) (t : ℕ)
-    → Refusal (step F n (run F n s xs) (step-new t p) .answer)
+pub not-made-again : (F : Form) → Apart F → (s : Tables) (p : ℕ) → promiseAt s p ≢ unmadeWord
+    → (xs : List LentStep) (n t : ℕ) → Refusal (step F n (run F s xs) (step-new t p) .answer)
 not-made-again = once.made-once
 
-pub not-started-again : (F : Form) → Apart F → (n : ℕ) (s : Tables) (c : ℕ) → taskAt s c ≢ unusedWord → (xs : List Step) (t : ℕ) (list : List ℕ)
-    → Refusal (step F n (run F n s xs) (step-async t c list) .answer)
+pub not-started-again : (F : Form) → Apart F → (s : Tables) (c : ℕ) → taskAt s c ≢ unusedWord
+    → (xs : List LentStep) (n t : ℕ) (list : List ℕ) → Refusal (step F n (run F s xs) (step-async t c list) .answer)
 not-started-again = once.started-once
 
 -- ---- DEMAND 3
 
 -- of any good tables
-pub demand-3-of : (F : Form) → Apart F → (n : ℕ) (s : Tables) → Good F n s → Demand3 F n s
-demand-3-of F apart n s g = record {
+pub demand-3-of : (F : Form) → Apart F → (s : Tables) → Good F s → Demand3 F s
+demand-3-of F apart s g = record {
   some-ready = waiting.some-ready (F .base) s (g .sound);
   one-chain = waiting.one-chain (F .base) s (g .sound);
-  kept = waiting.chain-kept F apart n s;
-  in-turn = in-turn.ends-in-turn F apart n s g;
+  kept = λ n. waiting.chain-kept F apart n s;
+  in-turn = λ v l c n. in-turn.ends-in-turn F apart n s g v l c;
 }
 
--- "From fresh tables, after any steps": all four sentences of specs/Demands.antt, `Demand3`
-pub demand-3 : (F : Form) → Apart F → (n T P : ℕ) → 1 ≤ T → T ≤ F .mostTasks → P ≤ F .mostPromises → roomFor T P ≤ n → (xs : List Step) → Demand3 F n (run F n (fresh T P) xs)
-demand-3 F apart n T P some most most′ room xs = demand-3-of F apart n (run F n (fresh T P) xs) (kept.good-run F apart n (fresh T P) xs (kept.fresh-good T P some F apart n most most′ room))
+-- "From fresh tables, after any steps", each with a report of its own, refusal 1 among them: all four sentences of
+-- specs/Demands.antt, `Demand3`
+pub demand-3 : (F : Form) → Apart F → (T P : ℕ) → 1 ≤ T → T ≤ F .mostTasks → P ≤ F .mostPromises
+    → (xs : List LentStep) → Demand3 F (run F (fresh T P) xs)
+demand-3 F apart T P some most most′ xs =
+    demand-3-of F apart (run F (fresh T P) xs)
+    (kept.good-run F apart (fresh T P) xs (kept.fresh-good T P some F apart most most′))
 
 -- ---- REQUEST 3, "Blamed is not set"
 
 pub the-blamed-set : map taken blamedSet ≡ map expected blamedSet
-the-blamed-set = cases.proved-sets .1
+the-blamed-set = cases.blamed-set
 
 module _ (F : Form) (apart : Apart F) (n : ℕ) (s : Tables) where
   -- "A set .. on a blamed promise must tell the blamed task": exactly then, and nothing changes
-  pub set-tells-the-blamed : Good F n s → (t p b : ℕ) → taskAt s t ≡ readyWord → promiseAt s p ≡ blamedOn (F .base) b → step F n s (step-set t p) ≡ outcome (RefusedBlamed b) s []
-  set-tells-the-blamed g t p b = blame.set-blamed F apart n s t p g b
+  pub set-tells-the-blamed : Good F s → roomOf s ≤ n → (t p b : ℕ) → taskAt s t ≡ readyWord
+      → promiseAt s p ≡ blamedOn (F .base) b → step F n s (step-set t p) ≡ outcome (RefusedBlamed b) s []
+  set-tells-the-blamed g room t p b = blame.set-blamed F apart n s t p g room b
 
   pub set-tells-only-the-blamed : (t p b : ℕ) → step F n s (step-set t p) .answer ≡ RefusedBlamed b → (taskAt s t ≡ readyWord) × (promiseAt s p ≡ blamedOn (F .base) b)
   set-tells-only-the-blamed = blame.blamed-set F apart n s
 
   -- "9 is given for a set promise alone"
-  pub nine-if-set : Good F n s → (t p : ℕ) → taskAt s t ≡ readyWord → promiseAt s p ≡ setWord → step F n s (step-set t p) ≡ outcome (Refused 9) s []
-  nine-if-set g t p = blame.set-nine F apart n s t p g
+  pub nine-if-set : Good F s → roomOf s ≤ n → (t p : ℕ) → taskAt s t ≡ readyWord → promiseAt s p ≡ setWord
+      → step F n s (step-set t p) ≡ outcome (Refused 9) s []
+  nine-if-set g room t p = blame.set-nine F apart n s t p g room
 
   pub nine-only-if-set : (t p : ℕ) → step F n s (step-set t p) .answer ≡ Refused 9 → (taskAt s t ≡ readyWord) × (promiseAt s p ≡ setWord)
   nine-only-if-set = blame.nine-set F apart n s
@@ -299,31 +368,33 @@ module _ (F : Form) (apart : Apart F) (n : ℕ) (s : Tables) where
   async-nine-only-if-set = blame.nine-async F apart n s
 
   -- who is told has ended
-  pub who-is-blamed-has-ended : Good F n s → (p b : ℕ) → promiseAt s p ≡ blamedOn (F .base) b → (b < length (s .tasks)) × (taskAt s b ≡ endedWord)
+  pub who-is-blamed-has-ended : Good F s → (p b : ℕ) → promiseAt s p ≡ blamedOn (F .base) b → (b < length (s .tasks)) × (taskAt s b ≡ endedWord)
   who-is-blamed-has-ended = blame.blamed-ended F apart n s
 
-  -- and after any steps whoever sets or lists the promise is told the same task
-  pub the-blame-stays : Good F n s → (xs : List Step) (p b : ℕ) → promiseAt s p ≡ blamedOn (F .base) b → promiseAt (run F n s xs) p ≡ blamedOn (F .base) b
-  the-blame-stays g xs = blame.blame-stays F apart n s xs g
+-- and after any steps, each with a report of its own, the promise is still blamed on the same task
+pub the-blame-stays : (F : Form) → Apart F → (s : Tables) → Good F s → (xs : List LentStep) (p b : ℕ)
+    → promiseAt s p ≡ blamedOn (F .base) b → promiseAt (run F s xs) p ≡ blamedOn (F .base) b
+the-blame-stays F apart s g xs = blame.blame-stays F apart s xs g
 
 -- ---- REQUEST 4, "Show that the alarm is real"
 
 pub the-ring-set : map takenUntested ringSet ≡ map expected ringSet
-the-ring-set = cases.proved-sets .2
+the-ring-set = cases.ring-set
 
 -- "the step rules, read without the soundness test" are `untested` (specs/Steps.antt): in sound tables the same rules
 pub untested-is-the-same-where-sound : (F : Form) (n : ℕ) (s : Tables) → Sound (F .base) s → (x : Step) → untested F n s x ≡ step F n s x
 untested-is-the-same-where-sound = rings.untested-sound
 
--- whatever the tables, if the get of p by t alarms, and whatever steps might have followed
-module _ (F : Form) (apart : Apart F) (n : ℕ) (s : Tables) (t p k : ℕ) (alarm : step F n s (step-get t p) .answer ≡ Cycle k) (xs : List Step) where
+-- whatever the tables, if the get of p by t alarms, and whatever steps might have followed, each with a report of its own
+module _ (F : Form) (apart : Apart F) (n : ℕ) (s : Tables) (t p k : ℕ)
+    (alarm : step F n s (step-get t p) .answer ≡ Cycle k) (xs : List LentStep) where
   -- the ring that the alarm reports
   abbrev ring : List ℕ
   ring = step F n s (step-get t p) .words
 
   -- "had the alarmed wait been entered anyway, then after any further accepted steps": refused and alarmed ones may be among them
   abbrev later : Tables
-  later = hadWaited F n s t p xs
+  later = hadWaited F s t p xs
 
   -- "every task of the reported ring would still wait on the same promise"
   pub the-ring-still-waits : (u q : ℕ) → Pair u q ring → taskAt later u ≡ waitsOn q
@@ -333,27 +404,31 @@ module _ (F : Form) (apart : Apart F) (n : ℕ) (s : Tables) (t p k : ℕ) (alar
   pub the-ring-stands : Stands later t p ring
   the-ring-stands = rings.alarm-stays F apart n s t p k alarm xs
 
-  in-bounds : inBounds F n later ≡ true
-  in-bounds = rings.alarm-bounds F apart n s t p k alarm xs
+  sizes : sizesFit F later ≡ true
+  sizes = rings.alarm-sizes F apart n s t p k alarm xs
 
-  -- "An outsider's get whose chain runs into the ring counts as a wait entered": it answers waits, with the number of all tasks, and from then on the outsider waits too
-  pub an-outsiders-wait-is-entered : (v q u : ℕ) → taskAt later v ≡ readyWord → promiseAt later q ≡ ownedBy u → RunsInto later ring u
-      → (untested F n later (step-get v q) ≡ outcome (Waits (length (later .tasks))) (withWait later v q) [])
-      × ((ys : List Step) → taskAt (ran (untested F n) (withWait later v q) ys) v ≡ waitsOn q)
-  an-outsiders-wait-is-entered v q u r o i = (
-    rings.outsider-entered later t p ring the-ring-stands F n apart in-bounds v q u r o i,
-    rings.outsider-stays later t p ring the-ring-stands F n v q u r o i,
+  -- "An outsider's get whose chain runs into the ring counts as a wait entered": with a report that has room it answers waits, with
+  -- the number of all tasks, and from then on the outsider waits too
+  pub an-outsiders-wait-is-entered : (m : ℕ) → roomOf later ≤ m → (v q u : ℕ) → taskAt later v ≡ readyWord
+      → promiseAt later q ≡ ownedBy u → RunsInto later ring u
+      → (untested F m later (step-get v q) ≡ outcome (Waits (length (later .tasks))) (withWait later v q) [])
+      × ((ys : List LentStep) → taskAt (ran (untested F) (withWait later v q) ys) v ≡ waitsOn q)
+  an-outsiders-wait-is-entered m room v q u r o i = (
+    rings.outsider-entered later t p ring the-ring-stands F apart sizes m room v q u r o i,
+    rings.outsider-stays later t p ring the-ring-stands F v q u r o i,
   )
 
   -- so does everybody who waited for a task of the ring already
-  pub who-runs-into-the-ring-still-waits : (v q : ℕ) → RunsInto later ring v → taskAt later v ≡ waitsOn q → (ys : List Step) → taskAt (ran (untested F n) later ys) v ≡ waitsOn q
-  who-runs-into-the-ring-still-waits = rings.into-stays later t p ring the-ring-stands F n
+  pub who-runs-into-the-ring-still-waits : (v q : ℕ) → RunsInto later ring v → taskAt later v ≡ waitsOn q
+      → (ys : List LentStep) → taskAt (ran (untested F) later ys) v ≡ waitsOn q
+  who-runs-into-the-ring-still-waits = rings.into-stays later t p ring the-ring-stands F
 
-  -- with the test every step on these tables is refused by 2
-  pub the-test-finds-the-ring : (x : Step) → step F n later x ≡ outcome (Refused 2) later []
-  the-test-finds-the-ring = rings.ring-refused later t p ring the-ring-stands F n apart in-bounds
+  -- with the test every step on these tables, with a report that has room, is refused by 2
+  pub the-test-finds-the-ring : (m : ℕ) → roomOf later ≤ m → (x : Step) → step F m later x ≡ outcome (Refused 2) later []
+  the-test-finds-the-ring = rings.ring-refused later t p ring the-ring-stands F apart sizes
 
 -- an alarm of the rules without the test, on a promise that a task owns, is as real, whatever the tables
 pub real-without-the-test : (F : Form) → Apart F → (n : ℕ) (s : Tables) (t p k u : ℕ) → u < length (s .tasks) → promiseAt s p ≡ ownedBy u
-    → untested F n s (step-get t p) .answer ≡ Cycle k → (xs : List Step) → Stands (hadWaited F n s t p xs) t p (untested F n s (step-get t p) .words)
+    → untested F n s (step-get t p) .answer ≡ Cycle k → (xs : List LentStep)
+    → Stands (hadWaited F s t p xs) t p (untested F n s (step-get t p) .words)
 real-without-the-test = rings.untested-stays

@@ -14,7 +14,7 @@ use Rattle.words.specs.Words.{unusedWord, readyWord, firstWait, unmadeWord, set
 use Rattle.words.specs.Lists.{allBelow}
 use Rattle.words.proofs.BoolLaws.{not-is-false, or-split, true-is-not-false}
 use Rattle.words.proofs.ListLaws.{within-table}
-use Rattle.rules.specs.Tables.{live, waiting}
+use Rattle.rules.specs.Tables.{live, Live, waiting}
 use Rattle.rules.specs.Refusals.{Row, first, earlier, actorRows, childRows, newRows, getRows, ownRows, entryRefusal, differs, firstBad}
 
 -- a row that is not the first that applies, and what follows it
@@ -57,7 +57,7 @@ pub record Acts (ts : List ℕ) (t : ℕ) : Type 0 where
 pub actorRows-numbered : (ts : List ℕ) (t : ℕ) → Numbered (actorRows ts t)
 actorRows-numbered ts t = row (eqb-false 3 0 refl) (row (eqb-false 4 0 refl) (row (eqb-false 5 0 refl) no-row))
 
-live-not-waiting : (w : ℕ) → live w ≡ true → waiting w ≡ false → w ≡ readyWord
+live-not-waiting : (w : ℕ) → Live w → waiting w ≡ false → w ≡ readyWord
 live-not-waiting w l n = ⊎-elim (λ (e : eqb w readyWord ≡ true). eqb-true w readyWord e) (λ (e : waiting w ≡ true). absurd (true-is-not-false (sym e ∙ n))) (or-split (eqb w readyWord) (waiting w) l)
 
 pub actorRows-past : {q : ℕ} (ts : List ℕ) (t : ℕ) (rows : List Row) → 3 ≢ q → 4 ≢ q → 5 ≢ q → first (actorRows ts t ++ rows) ≡ q → Acts ts t × (first rows ≡ q)

@@ -13,14 +13,14 @@ use lib.Seq.{getD-set-same, getD-set-other}
 use Rattle.words.specs.Words.{Form, readyWord, waitsOn, unmadeWord, firstOwned, ownedBy}
 use Rattle.words.proofs.ListLaws.{within-table}
 use Rattle.words.proofs.BoolLaws.{not-is-false}
-use Rattle.rules.specs.Tables.{Tables, taskAt, promiseAt, inBounds}
+use Rattle.rules.specs.Tables.{Tables, sizesFit, roomOf, inBounds, taskAt, promiseAt}
 use Rattle.rules.specs.Chains.{WaitsFor, Chain, here, link, view, waits}
 use Rattle.rules.specs.Sound.{Sound, to, hop, soundTest}
 use Rattle.rules.specs.Refusals.{first, boundsRows, getRows}
-use Rattle.rules.specs.Steps.{Step, step-get, actor, outcome, withWait, astray, walk, followed, got, guarded, raw, step, untested, ran}
+use Rattle.rules.specs.Steps.{Step, step-get, actor, outcome, withWait, astray, walk, followed, got, guarded, raw, step, untested, LentStep, ran}
 use Rattle.rules.specs.Demands.{Apart, hadWaited, Pair, this-pair, later-pair, LeadsTo, at-last, and-then, Stands, RunsInto, of-the-ring, behind-it}
 use Rattle.rules.specs.declared.Answer.the-variants.{Waits, Cycle, Refused}
-use Rattle.rules.proofs.BoundsLaws.{AsLong, as-long, as-long-too, long-tasks, inBounds-kept}
+use Rattle.rules.proofs.BoundsLaws.{AsLong, as-long, as-long-too, long-tasks, sizesFit-kept, inBounds-sizes, inBounds-both}
 use Rattle.rules.proofs.Accepted.{Did, did-raw, lengths-kept, did-moves, got-owned}
 use Rattle.rules.proofs.Alarms.{followed-stands, alarm-means}
 use Rattle.rules.proofs.GuardLaws.{guarded-is, guarded-none}
@@ -41,12 +41,11 @@ bounds-past : (F : Form) (n : ℕ) (s : Tables) → first (boundsRows F n s) ≡
 bounds-past F n s e = not-is-false _ (first-past 1 _ [] (eqb-false 1 0 refl) e .0)
 
 -- and they leave the tables as long as they were
-ran-lengths : (F : Form) (n : ℕ) (s : Tables) (xs : List Step)
-    → AsLong (ran (untested F n) s xs) s
-ran-lengths F n s [] = as-long s
-ran-lengths F n s (x ∷ xs) =
+ran-lengths : (F : Form) (s : Tables) (xs : List LentStep) → AsLong (ran (untested F) s xs) s
+ran-lengths F s [] = as-long s
+ran-lengths F s ((n, x) ∷ xs) =
     let s′ = untested F n s x .after in
-    as-long-too (ran-lengths F n s′ xs) (lengths-kept F s x (first (boundsRows F n s)))
+    as-long-too (ran-lengths F s′ xs) (lengths-kept F s x (first (boundsRows F n s)))
 
 -- ---- a crowd whose tasks wait for one another
 
@@ -123,12 +122,14 @@ module _ (W : ℕ → Type 0) where
     got-entered F f t p u r o m = got-owned F s f t p u (below u m) o ∙ ap (followed s t p) (walk-astray t r (length (s .tasks)) 1 u m)
 
   -- after any steps
-  stuck-run : (F : Form) (n : ℕ) (s : Tables) → Stuck s → (xs : List Step) → Same s (ran (untested F n) s xs)
-  stuck-run F n s st [] = λ v m. (refl, λ p w. refl)
-  stuck-run F n s st (x ∷ xs) =
+  stuck-run : (F : Form) (s : Tables) → Stuck s → (xs : List LentStep) → Same s (ran (untested F) s xs)
+  stuck-run F s st [] = λ v m. (refl, λ p w. refl)
+  stuck-run F s st ((n, x) ∷ xs) =
       let s′ = untested F n s x .after in
-      let one : Same s s′ = guarded-is _ (first (boundsRows F n s)) s (raw F s x) (Same s) (λ v m. (refl, λ p w. refl)) (λ z. same-did s st (did-raw F s x)) in
-      same-trans s s′ (ran (untested F n) s′ xs) one (stuck-run F n s′ (stuck-same s s′ st one) xs)
+      let one : Same s s′ =
+      guarded-is _ (first (boundsRows F n s)) s (raw F s x) (Same s) (λ v m. (refl, λ p w. refl))
+      (λ z. same-did s st (did-raw F s x)) in
+      same-trans s s′ (ran (untested F) s′ xs) one (stuck-run F s′ (stuck-same s s′ st one) xs)
 
 -- whoever waits on a promise of the crowd belongs to it
 joined : (W : ℕ → Type 0) (s : Tables) → Stuck W s → (t p u : ℕ) → taskAt s t ≡ readyWord → promiseAt s p ≡ ownedBy u → W u → Stuck (λ v. (v ≡ t) ⊎ W v) (withWait s t p)
@@ -183,23 +184,30 @@ module _ (s : Tables) (t p : ℕ) (ws : List ℕ) (ring : Stands s t p ws) where
       next-pair (inr j) = j
   into-stuck v (behind-it {u = u} q w o r) = (q, u, w, o, r)
 
-  module _ (F : Form) (n : ℕ) where
+  module _ (F : Form) where
     -- after any steps the ring stands, and who runs into it still waits
-    pub ring-stays : (xs : List Step) → Stands (ran (untested F n) s xs) t p ws
-    ring-stays xs = leads-same ring (λ u q i w. let (a, b) = stuck-run (RunsInto s ws) F n s into-stuck xs u (of-the-ring i) in (a, b q w))
+    pub ring-stays : (xs : List LentStep) → Stands (ran (untested F) s xs) t p ws
+    ring-stays xs =
+        leads-same ring
+        (λ u q i w. let (a, b) = stuck-run (RunsInto s ws) F s into-stuck xs u (of-the-ring i) in (a, b q w))
 
-    pub into-stays : (v q : ℕ) → RunsInto s ws v → taskAt s v ≡ waitsOn q → (xs : List Step) → taskAt (ran (untested F n) s xs) v ≡ waitsOn q
-    into-stays v q r w xs = stuck-run (RunsInto s ws) F n s into-stuck xs v r .0 ∙ w
+    pub into-stays : (v q : ℕ) → RunsInto s ws v → taskAt s v ≡ waitsOn q → (xs : List LentStep)
+        → taskAt (ran (untested F) s xs) v ≡ waitsOn q
+    into-stays v q r w xs = stuck-run (RunsInto s ws) F s into-stuck xs v r .0 ∙ w
 
     -- whoever then waits on a promise of one who runs into it waits as long
-    pub outsider-stays : (v q u : ℕ) → taskAt s v ≡ readyWord → promiseAt s q ≡ ownedBy u → RunsInto s ws u → (xs : List Step)
-        → taskAt (ran (untested F n) (withWait s v q) xs) v ≡ waitsOn q
+    pub outsider-stays : (v q u : ℕ) → taskAt s v ≡ readyWord → promiseAt s q ≡ ownedBy u → RunsInto s ws u
+        → (xs : List LentStep) → taskAt (ran (untested F) (withWait s v q) xs) v ≡ waitsOn q
     outsider-stays v q u r o i xs =
         let b : v < length (s .tasks) = within-table (s .tasks) v (λ (z : taskAt s v ≡ 0). omega arith) in
-        stuck-run (λ x. (x ≡ v) ⊎ RunsInto s ws x) F n (withWait s v q) (joined (RunsInto s ws) s into-stuck v q u r o i) xs v (inl refl) .0
+        let st = joined (RunsInto s ws) s into-stuck v q u r o i in
+        stuck-run (λ x. (x ≡ v) ⊎ RunsInto s ws x) F (withWait s v q) st xs v (inl refl) .0
         ∙ getD-set-same (s .tasks) v (waitsOn q) 0 b
 
-    module _ (apart : Apart F) (bounds : inBounds F n s ≡ true) where
+    module _ (apart : Apart F) (sizes : sizesFit F s ≡ true) (n : ℕ) (room : roomOf s ≤ n) where
+      bounds : inBounds F n s ≡ true
+      bounds = inBounds-both F n s sizes room
+
       -- a get whose owners run into the ring is entered
       pub outsider-entered : (v q u : ℕ) → taskAt s v ≡ readyWord → promiseAt s q ≡ ownedBy u → RunsInto s ws u
           → untested F n s (step-get v q) ≡ outcome (Waits (length (s .tasks))) (withWait s v q) []
@@ -207,7 +215,7 @@ module _ (s : Tables) (t p : ℕ) (ws : List ℕ) (ring : Stands s t p ws) where
       outsider-entered v q u r o i =
           guarded-none _ (first (boundsRows F n s)) s _ (rw bounds)
           ∙ guarded-none _ _ s _ (ready-acts (s .tasks) v r (getRows (s .promises) q) ∙ made-passes (s .promises) q (λ (z : promiseAt s q ≡ unmadeWord). omega arith))
-          ∙ got-entered (RunsInto s ws) s into-stuck F (fits F apart n s bounds) v q u r o i
+          ∙ got-entered (RunsInto s ws) s into-stuck F (fits F apart s sizes) v q u r o i
 
       -- with the test, every step is refused by 2
       pub ring-refused : (x : Step) → step F n s x ≡ outcome (Refused 2) s []
@@ -215,7 +223,9 @@ module _ (s : Tables) (t p : ℕ) (ws : List ℕ) (ring : Stands s t p ws) where
       ring-refused x = go (soundTest (F .base) s) refl
         where
           go : (b : Bool) → soundTest (F .base) s ≡ b → step F n s x ≡ outcome (Refused 2) s []
-          go true e = absurd (not-sound (RunsInto s ws) s into-stuck (F .base) t (of-the-ring (first-pair ring)) (soundTest-sound (F .base) s (fits F apart n s bounds) e))
+          go true e =
+              let sd = soundTest-sound (F .base) s (fits F apart s sizes) e in
+              absurd (not-sound (RunsInto s ws) s into-stuck (F .base) t (of-the-ring (first-pair ring)) sd)
           go false e = rw (bounds, e)
 
 -- ---- the ring of an alarm
@@ -227,21 +237,25 @@ module _ (F : Form) (apart : Apart F) (n : ℕ) (s : Tables) (t p k u : ℕ) (h 
   untested-stands alarm =
       let (y, z, e) = let-through F s (step-get t p) (boundsRows F n s) (Cycle k) (λ r. elim r [ ]) alarm in
       let (act, z₁) = actorRows-none (s .tasks) t (getRows (s .promises) p) z in
-      followed-stands s t p (act .below) k u o (untested F n s (step-get t p)) (e ∙ got-owned F s (fits F apart n s (bounds-past F n s y)) t p u h o) alarm
+      let f = fits F apart s (inBounds-sizes F n s (bounds-past F n s y)) in
+      followed-stands s t p (act .below) k u o (untested F n s (step-get t p)) (e ∙ got-owned F s f t p u h o) alarm
 
-  pub untested-stays : untested F n s (step-get t p) .answer ≡ Cycle k → (xs : List Step) → Stands (hadWaited F n s t p xs) t p (untested F n s (step-get t p) .words)
-  untested-stays alarm = ring-stays (withWait s t p) t p _ (untested-stands alarm) F n
+  pub untested-stays : untested F n s (step-get t p) .answer ≡ Cycle k → (xs : List LentStep)
+      → Stands (hadWaited F s t p xs) t p (untested F n s (step-get t p) .words)
+  untested-stays alarm = ring-stays (withWait s t p) t p _ (untested-stands alarm) F
 
 -- an alarm
 module _ (F : Form) (apart : Apart F) (n : ℕ) (s : Tables) (t p k : ℕ) (alarm : step F n s (step-get t p) .answer ≡ Cycle k) where
-  pub alarm-stays : (xs : List Step) → Stands (hadWaited F n s t p xs) t p (step F n s (step-get t p) .words)
-  alarm-stays = ring-stays (withWait s t p) t p _ (alarm-means F apart n s t p k alarm .ring) F n
+  pub alarm-stays : (xs : List LentStep) → Stands (hadWaited F s t p xs) t p (step F n s (step-get t p) .words)
+  alarm-stays = ring-stays (withWait s t p) t p _ (alarm-means F apart n s t p k alarm .ring) F
 
-  pub alarm-real : (xs : List Step) (u q : ℕ) → Pair u q (step F n s (step-get t p) .words) → taskAt (hadWaited F n s t p xs) u ≡ waitsOn q
+  pub alarm-real : (xs : List LentStep) (u q : ℕ) → Pair u q (step F n s (step-get t p) .words)
+      → taskAt (hadWaited F s t p xs) u ≡ waitsOn q
   alarm-real xs u q i = pair-of (alarm-stays xs) i .waits
 
   -- the tables stay as long as they were
-  pub alarm-bounds : (xs : List Step) → inBounds F n (hadWaited F n s t p xs) ≡ true
-  alarm-bounds xs =
+  pub alarm-sizes : (xs : List LentStep) → sizesFit F (hadWaited F s t p xs) ≡ true
+  alarm-sizes xs =
       let g = accepted-good F apart n s (step-get t p) (Cycle k) (λ r. elim r [ ]) alarm in
-      inBounds-kept F n (as-long-too (ran-lengths F n (withWait s t p) xs) (long-tasks s (length-set (s .tasks) t (waitsOn p)))) (g .bounds)
+      let entered = long-tasks s (length-set (s .tasks) t (waitsOn p)) in
+      sizesFit-kept F (as-long-too (ran-lengths F (withWait s t p) xs) entered) (g .sizes)

@@ -14,33 +14,24 @@ use Rattle.words.specs.Words.{unusedWord, readyWord, endedWord, waitsOn, firstW
 use Rattle.words.specs.Lists.{allBelow}
 use Rattle.words.proofs.BoolLaws.{and-yes, and-split, or-split, or-left, or-right}
 use Rattle.words.proofs.ListLaws.{allBelow-at, allBelow-make, count-le, pigeon}
-use Rattle.rules.specs.Tables.{Tables, taskAt, promiseAt, live, waiting, liveTasks}
+use Rattle.rules.specs.Tables.{Tables, taskAt, promiseAt, live, Live, waiting, liveTasks}
 use Rattle.rules.specs.Chains.{Chain, here, link, Comes, WaitsFor, view, awaitedBy}
 use Rattle.rules.specs.Chains as chains
-use Rattle.rules.specs.Sound.{Live, TaskWord, unused, ready, ended, waits, PromiseWord, unmade, done, owned, blamed, Sound, comes, taskPasses, promisePasses, soundTest}
+use Rattle.rules.specs.Sound.{TaskWord, unused, ready, ended, waits, PromiseWord, unmade, done, owned, blamed, Sound, comes, taskPasses, promisePasses, soundTest}
+use Rattle.rules.proofs.BoundsLaws.{live-ready, live-waits}
 use Rattle.rules.proofs.GraphLaws.{on-chain, no-dup}
 use Rattle.rules.proofs.Moves.{det}
 use Rattle.rules.proofs.WalkLaws.{comes-chain, chain-comes}
 
 -- ---- the bound
 
-live-yes : (w : ℕ) → Live w → live w ≡ true
-live-yes w (inl e) = or-left _ _ (eq-eqb w readyWord e)
-live-yes w (inr h) = or-right (eqb w readyWord) _ (le-leb firstWait w h)
-
-pub live-is : (w : ℕ) → live w ≡ true → Live w
-live-is w e = go (or-split _ _ e)
-  where
-    go : (eqb w readyWord ≡ true) ⊎ (leb firstWait w ≡ true) → Live w
-    go (inl a) = inl (eqb-true w 1 a)
-    go (inr a) = inr (leb-true 16 w a)
-
 pub chain-bound : (s : Tables) {v : ℕ} {l : List ℕ} → Chain (chains.waits s) v l → suc (length l) ≤ liveTasks s
 chain-bound s {v} {l} c = pigeon live refl (v ∷ l) (s .tasks) (no-dup (chains.waits s) (det (length (s .tasks)) (view s)) c) (λ x i. go x (on-chain (chains.waits s) c i))
   where
-    go : (x : ℕ) → (taskAt s x ≡ readyWord) ⊎ ((w : ℕ) × (u : ℕ) × WaitsFor (length (s .tasks)) (view s) x w u) → live (taskAt s x) ≡ true
-    go x (inl e) = live-yes (taskAt s x) (inl e)
-    go x (inr k) = live-yes (taskAt s x) (inr (omega (arith, k .2 .waits)))
+    go : (x : ℕ) → (taskAt s x ≡ readyWord) ⊎ ((w : ℕ) × (u : ℕ) × WaitsFor (length (s .tasks)) (view s) x w u)
+        → Live (taskAt s x)
+    go x (inl e) = live-ready (taskAt s x) e
+    go x (inr k) = live-waits (taskAt s x) (omega (arith, k .2 .waits))
 
 -- ---- what the tests of one word say
 
@@ -93,7 +84,7 @@ module _ (B : ℕ) (s : Tables) where
           let (bc, r) = and-split _ _ a in
           let (b, c) = and-split _ _ bc in
           let h : 16 ≤ promiseAt s q = leb-true firstOwned (promiseAt s q) b in
-          p-owned (promiseAt s q - firstOwned) (ltb-true _ _ c) (omega arith) (live-is _ r)
+          p-owned (promiseAt s q - firstOwned) (ltb-true _ _ c) (omega arith) r
 
       go₃ : ((eqb (promiseAt s q) 0 || eqb (promiseAt s q) 1 || (leb firstOwned (promiseAt s q) && ltb (promiseAt s q - firstOwned) (length (s .tasks)) && live (taskAt s (promiseAt s q - firstOwned)))) ≡ true)
           ⊎ ((leb B (promiseAt s q) && ltb (promiseAt s q - B) (length (s .tasks)) && eqb (taskAt s (promiseAt s q - B)) 2) ≡ true) → PromIs q
@@ -189,7 +180,7 @@ module _ (B : ℕ) (s : Tables) where
         let z : promiseAt s q - firstOwned ≡ u = omega arith in
         or-left _ _ (or-right (eqb (promiseAt s q) 0 || eqb (promiseAt s q) 1) _
         (and-yes _ _ (and-yes _ _ (le-leb firstOwned (promiseAt s q) (omega arith)) (lt-ltb (promiseAt s q - firstOwned) (length (s .tasks)) (omega arith)))
-        (ap (λ (x : ℕ). live (taskAt s x)) z ∙ live-yes _ (sd .ownerLive q u h e))))
+        (ap (λ (x : ℕ). live (taskAt s x)) z ∙ sd .ownerLive q u h e)))
     prom-pass q (blamed u h e) =
         let z : promiseAt s q - B ≡ u = omega arith in
         or-right (eqb (promiseAt s q) 0 || eqb (promiseAt s q) 1 || (leb firstOwned (promiseAt s q) && ltb (promiseAt s q - firstOwned) (length (s .tasks)) && live (taskAt s (promiseAt s q - firstOwned)))) _

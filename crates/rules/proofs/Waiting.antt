@@ -6,15 +6,16 @@ use mathlib.Core.List.{List, _∷_}
 use Prim.Native.Nat.{ℕ, suc, _≤_}
 use native.Mathlib.Omega.{arith}
 use lib.ListN.{length}
-use Rattle.words.specs.Words.{Form, readyWord, waitsOn}
+use Rattle.words.specs.Words.{Form, readyWord, firstWait, waitsOn}
 use Rattle.words.specs.Lists.{In}
-use Rattle.rules.specs.Tables.{Tables, taskAt, promiseAt, liveTasks}
+use Rattle.rules.specs.Tables.{Tables, taskAt, promiseAt, Live, liveTasks}
 use Rattle.rules.specs.Chains.{Chain, WaitsFor, chainEnd, view, graph, waits}
-use Rattle.rules.specs.Sound.{Live, TaskWord, unused, ready, ended, Sound}
+use Rattle.rules.specs.Sound.{TaskWord, unused, ready, ended, Sound}
 use Rattle.rules.specs.Sound as sound
 use Rattle.rules.specs.Steps.{Step, actor, step}
 use Rattle.rules.specs.Demands.{Apart}
 use Rattle.rules.proofs.Accepted.{Took, stayed, moved}
+use Rattle.rules.proofs.BoundsLaws.{live-is}
 use Rattle.rules.proofs.GraphLaws.{Det, Frame, on-chain, unique, end-ready, ready-is-end, chain-stays, words-stay}
 use Rattle.rules.proofs.Kept.{took-step}
 use Rattle.rules.proofs.Moves.{det, link-words, frame}
@@ -22,9 +23,10 @@ use Rattle.rules.proofs.SoundTest.{chain-bound}
 
 -- while a task is live, some task is ready
 pub some-ready : (B : ℕ) (s : Tables) → Sound B s → (v : ℕ) → Live (taskAt s v) → (e : ℕ) × (taskAt s e ≡ readyWord)
-some-ready B s sd v l = go l (sd .taskWord v)
+some-ready B s sd v l = go (live-is _ l) (sd .taskWord v)
   where
-    go : Live (taskAt s v) → TaskWord (length (s .promises)) (taskAt s v) → (e : ℕ) × (taskAt s e ≡ readyWord)
+    go : (taskAt s v ≡ readyWord) ⊎ (firstWait ≤ taskAt s v) → TaskWord (length (s .promises)) (taskAt s v)
+        → (e : ℕ) × (taskAt s e ≡ readyWord)
     go (inl e) w = (v, e)
     go (inr b) (unused e) = absurd (omega arith)
     go (inr b) (ready e) = (v, e)

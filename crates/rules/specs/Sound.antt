@@ -1,21 +1,19 @@
 -- Sound tables: as a statement to read, and as a test that computes. Paper: 01, "Tables and words". proofs/SoundTest.antt shows that the two agree.
 --
 --   TaskWord P w, PromiseWord T B w   w is a word of the task table, of the promise table
---   Live w                            a task with the word w is ready or waits
 --   SoundView T P B s, Sound B s      the tables are sound
 --   Hop, hop T s v                    from task v, one of T, to the owner of what it awaits
 --   comes n T s v                     following owners from v comes to a ready task in fewer than n hops
 --   taskPasses s v, promisePasses B s q, soundTest B s   the test
 -- Assumes nothing.
 use mathlib.Core.Path.{_≡_}
-use mathlib.Core.Logic.{_⊎_}
 use mathlib.Core.Bool.{Bool, true, false, cond, _&&_, _||_}
-use Prim.Native.Nat.{ℕ, zero, suc, _-_, _≤_, _<_}
+use Prim.Native.Nat.{ℕ, zero, suc, _-_, _<_}
 use lib.Dec.{eqb, leb, ltb}
 use lib.ListN.{length}
 use Rattle.words.specs.Words.{unusedWord, readyWord, endedWord, firstWait, waitsOn, unmadeWord, setWord, firstOwned, ownedBy, blamedOn}
 use Rattle.words.specs.Lists.{allBelow}
-use Rattle.rules.specs.Tables.{Tables, taskAt, promiseAt, live, waiting}
+use Rattle.rules.specs.Tables.{Tables, taskAt, promiseAt, live, Live, waiting}
 use Rattle.rules.specs.Chains.{View, view, awaitedBy, graph, Comes}
 
 -- ---- the statement
@@ -32,10 +30,6 @@ pub data PromiseWord (T B w : ℕ) : Type 0 where
   done : w ≡ setWord → PromiseWord T B w
   owned : (t : ℕ) → t < T → w ≡ ownedBy t → PromiseWord T B w
   blamed : (t : ℕ) → t < T → w ≡ blamedOn B t → PromiseWord T B w
-
--- "A task is live when it is ready or waits"
-abbrev pub Live : ℕ → Type 0
-Live w = (w ≡ readyWord) ⊎ (firstWait ≤ w)
 
 -- "Tables are sound when: every word is one of these, with p below P and t below T; every owner is live; every awaited promise is owned; every blamed
 -- task is ended; and every waiting task's chain comes to a ready task."

@@ -11,8 +11,9 @@
 --   effect F s x            what the step does where none of them applies
 --   raw F s x, step F n s x the rules without and with refusals 1 and 2; n is the report's length
 --   untested F n s x        the rules without the soundness test
---   ran f s xs              the tables after the steps xs, each taken by the rules f
---   run F n s xs            the same by the rules
+--   LentStep                a step, and the length of the report that it is lent
+--   ran f s xs              the tables after the steps xs, each with a report of its own length, taken by the rules f
+--   run F s xs              the same by the rules
 -- Assumes nothing.
 use Prim.Native.Nat.{ℕ, zero, suc, _-_}
 use mathlib.Core.List.{List, [], _∷_, _++_}
@@ -181,9 +182,13 @@ step F n s x = guarded byNumber (first (tableRows F n s)) s (raw F s x)
 abbrev pub untested : Form → ℕ → Tables → Step → Outcome
 untested F n s x = guarded byNumber (first (boundsRows F n s)) s (raw F s x)
 
-abbrev pub ran : (Tables → Step → Outcome) → Tables → List Step → Tables
-ran f s [] = s
-ran f s (x ∷ xs) = ran f (f s x .after) xs
+-- the length of the report comes first; too short a one gives refusal 1 among the steps
+abbrev pub LentStep : Type 0
+LentStep = ℕ × Step
 
-abbrev pub run : Form → ℕ → Tables → List Step → Tables
-run F n s xs = ran (step F n) s xs
+abbrev pub ran : (ℕ → Tables → Step → Outcome) → Tables → List LentStep → Tables
+ran f s [] = s
+ran f s ((n, x) ∷ xs) = ran f (f n s x .after) xs
+
+abbrev pub run : Form → Tables → List LentStep → Tables
+run F s xs = ran (step F) s xs
