@@ -1,5 +1,6 @@
--- The number and the values of a step's answer tell the answer: `answerOf` (specs/Answers.antt) reads it back. For one given
--- step its four words do: whether a place or a blamed task stands in them follows from the step and the number. Assumes nothing.
+-- The number and the values of a step's answer tell the answer: `answerOf` (specs/Answers.antt) reads it back. For one
+-- given step its four words do: whether a place or a blamed task stands in them follows from the step and the number.
+-- Assumes nothing.
 use mathlib.Core.Path.{_≡_, refl, sym, subst, _∙_}
 use mathlib.Core.Logic.{_⊎_, inl, inr}
 use mathlib.Core.List.{List}
@@ -13,23 +14,14 @@ use Rattle.words.specs.Lists.{In}
 use Rattle.words.proofs.BoolLaws.{not-is-true}
 use Rattle.words.proofs.ListLaws.{in-passes, isIn}
 use Rattle.rules.specs.Tables.{Tables}
-use Rattle.rules.specs.Answers.{
-  laid,
-  numberOf,
-  valuesOf,
-  refusalOf,
-  accepted,
-  answerOf,
-  SameWords,
-  byNumber,
-  refusedWith,
-  refusedAtWith,
-}
+use Rattle.rules.specs.Answers.{laid, numberOf, valuesOf, refusalOf, accepted, answerOf, SameWords, byNumber}
+use Rattle.rules.specs.Answers.{refusedWith, refusedAtWith}
 use Rattle.rules.specs.Steps.{Step, step-new, step-set, step-get, step-async, step-end, stepRefused, step}
 use Rattle.rules.specs.Demands.{paperRows, paperEntryRows, BadPlace, Refusal, HowRefused, by-row, for-entry}
 use Rattle.rules.specs.declared.Answer.{Answer}
 use Rattle.rules.specs.declared.Answer.the-variants.{Opened}
-use Rattle.rules.proofs.AnswerLaws.{Accepted, accepted-or-refused, with-by, at-with-by, stepRefused-by, stepRefused-number}
+use Rattle.rules.proofs.AnswerLaws.{Accepted, accepted-or-refused, with-by, at-with-by, stepRefused-by}
+use Rattle.rules.proofs.AnswerLaws.{stepRefused-number}
 use Rattle.rules.proofs.Order.{papers-order, given-in, refused-first, placed-first, how-refused, refusal-passes}
 
 -- ---- the number and the values
