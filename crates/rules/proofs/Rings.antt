@@ -1,6 +1,7 @@
--- Request 4, "Show that the alarm is real", over the rules without the soundness test, in any tables. A crowd in which each task waits on a promise that another of
--- the crowd owns stays so after any steps: none of them may act, and nobody else owns what they await. The tasks of a ring are such a crowd, and so is everybody whose
--- chain runs into it. Assumes nothing.
+-- Request 4, "Show that the alarm is real", over the rules without the soundness test, in any tables. A crowd in which
+-- each task waits on a promise that another of the crowd owns stays so after any steps: none of them may act, and
+-- nobody else owns what they await. The tasks of a ring are such a crowd, and so is everybody whose chain runs into it.
+-- Assumes nothing.
 use mathlib.Core.Path.{_≡_, refl, sym, ap, subst, _∙_}
 use mathlib.Core.Logic.{_⊎_, inl, inr, _≢_}
 use mathlib.Core.List.{List, [], _∷_}
@@ -13,14 +14,17 @@ use lib.Seq.{getD-set-same, getD-set-other}
 use Rattle.words.specs.Words.{Form, readyWord, waitsOn, unmadeWord, firstOwned, ownedBy}
 use Rattle.words.proofs.ListLaws.{within-table}
 use Rattle.words.proofs.BoolLaws.{not-is-false}
-use Rattle.rules.specs.Tables.{Tables, taskAt, promiseAt, inBounds}
+use Rattle.rules.specs.Tables.{Tables, sizesFit, roomOf, inBounds, taskAt, promiseAt}
 use Rattle.rules.specs.Chains.{WaitsFor, Chain, here, link, view, waits}
 use Rattle.rules.specs.Sound.{Sound, to, hop, soundTest}
 use Rattle.rules.specs.Refusals.{first, boundsRows, getRows}
-use Rattle.rules.specs.Steps.{Step, step-get, actor, outcome, withWait, astray, walk, followed, got, guarded, raw, step, untested, ran}
-use Rattle.rules.specs.Demands.{Apart, hadWaited, Pair, this-pair, later-pair, LeadsTo, at-last, and-then, Stands, RunsInto, of-the-ring, behind-it}
+use Rattle.rules.specs.Steps.{Step, step-get, actor, outcome, withWait, astray, walk, followed, got, guarded, raw}
+use Rattle.rules.specs.Steps.{step, untested, LentStep, ran}
+use Rattle.rules.specs.Demands.{Apart, hadWaited, Pair, this-pair, later-pair, LeadsTo, at-last, and-then, Stands}
+use Rattle.rules.specs.Demands.{RunsInto, of-the-ring, behind-it}
 use Rattle.rules.specs.declared.Answer.the-variants.{Waits, Cycle, Refused}
-use Rattle.rules.proofs.BoundsLaws.{AsLong, as-long, as-long-too, long-tasks, inBounds-kept}
+use Rattle.rules.proofs.BoundsLaws.{AsLong, as-long, as-long-too, long-tasks, sizesFit-kept, inBounds-sizes}
+use Rattle.rules.proofs.BoundsLaws.{inBounds-both}
 use Rattle.rules.proofs.Accepted.{Did, did-raw, lengths-kept, did-moves, got-owned}
 use Rattle.rules.proofs.Alarms.{followed-stands, alarm-means}
 use Rattle.rules.proofs.GuardLaws.{guarded-is, guarded-none}
@@ -41,12 +45,11 @@ bounds-past : (F : Form) (n : ℕ) (s : Tables) → first (boundsRows F n s) ≡
 bounds-past F n s e = not-is-false _ (first-past 1 _ [] (eqb-false 1 0 refl) e .0)
 
 -- and they leave the tables as long as they were
-ran-lengths : (F : Form) (n : ℕ) (s : Tables) (xs : List Step)
-    → AsLong (ran (untested F n) s xs) s
-ran-lengths F n s [] = as-long s
-ran-lengths F n s (x ∷ xs) =
+ran-lengths : (F : Form) (s : Tables) (xs : List LentStep) → AsLong (ran (untested F) s xs) s
+ran-lengths F s [] = as-long s
+ran-lengths F s ((n, x) ∷ xs) =
     let s′ = untested F n s x .after in
-    as-long-too (ran-lengths F n s′ xs) (lengths-kept F s x (first (boundsRows F n s)))
+    as-long-too (ran-lengths F s′ xs) (lengths-kept F s x (first (boundsRows F n s)))
 
 -- ---- a crowd whose tasks wait for one another
 
@@ -57,7 +60,8 @@ module _ (W : ℕ → Type 0) where
 
   -- the words of its tasks, and of what they await, are the same
   abbrev Same : Tables → Tables → Type 0
-  Same s s′ = (v : ℕ) → W v → (taskAt s′ v ≡ taskAt s v) × ((p : ℕ) → taskAt s v ≡ waitsOn p → promiseAt s′ p ≡ promiseAt s p)
+  Same s s′ =
+      (v : ℕ) → W v → (taskAt s′ v ≡ taskAt s v) × ((p : ℕ) → taskAt s v ≡ waitsOn p → promiseAt s′ p ≡ promiseAt s p)
 
   stuck-same : (s s′ : Tables) → Stuck s → Same s s′ → Stuck s′
   stuck-same s s′ st same v m =
@@ -79,12 +83,14 @@ module _ (W : ℕ → Type 0) where
     below : (v : ℕ) → W v → v < length (s .tasks)
     below v m = let (p, u, w, o, m′) = st v m in within-table (s .tasks) v (λ (z : taskAt s v ≡ 0). omega arith)
 
-    same-moves : (B t : ℕ) (s′ : Tables) → Moves (length (s .tasks)) (length (s .promises)) B (view s) (view s′) t → Same s s′
+    same-moves : (B t : ℕ) (s′ : Tables) → Moves (length (s .tasks)) (length (s .promises)) B (view s) (view s′) t
+        → Same s s′
     same-moves B t s′ mv v m =
         let (p, u, w, o, m′) = st v m in
         let k : WaitsFor (length (s .tasks)) (view s) v p u = record { waits = w; owned = o; below = below u m′ } in
         link-words (length (s .tasks)) (length (s .tasks)) (view s) (view s′) v p u k
-        (frame (length (s .tasks)) (length (s .promises)) B (view s) (view s′) t mv .keep v p u (not-ready t u (mv .acts) m′) k)
+        (frame (length (s .tasks)) (length (s .promises)) B (view s) (view s′) t mv .keep v p u
+        (not-ready t u (mv .acts) m′) k)
 
     same-did : {B : ℕ} {s′ : Tables} {x : Step} → Did B s x s′ → Same s s′
     same-did {B} {s′} {x} d = go (did-moves d)
@@ -109,29 +115,36 @@ module _ (W : ℕ → Type 0) where
         no-chain m c
 
     -- following owners from it, on behalf of a ready task, finds neither that task nor another ready one
-    walk-astray : (t : ℕ) → taskAt s t ≡ readyWord → (n k u : ℕ) → W u → walk n (length (s .tasks)) (view s) t u k ≡ astray
+    walk-astray : (t : ℕ) → taskAt s t ≡ readyWord → (n k u : ℕ) → W u
+        → walk n (length (s .tasks)) (view s) t u k ≡ astray
     unfolding walk hop
     walk-astray t r zero k u m = refl
     walk-astray t r (suc n) k u m =
         let (p, x, w, o, m′) = st u m in
-        let f : hop (length (s .tasks)) (view s) u ≡ to x = hop-to (length (s .tasks)) (view s) (taskAt s u) p x w o (below x m′) in
+        let f : hop (length (s .tasks)) (view s) u ≡ to x =
+        hop-to (length (s .tasks)) (view s) (taskAt s u) p x w o (below x m′) in
         rw (ne-eqb u t (not-ready t u r m), f) (walk-astray t r n (suc k) x m′)
 
-    got-entered : (F : Form) → firstOwned + length (s .tasks) ≤ F .base → (t p u : ℕ) → taskAt s t ≡ readyWord → promiseAt s p ≡ ownedBy u → W u
+    got-entered : (F : Form) → firstOwned + length (s .tasks) ≤ F .base → (t p u : ℕ) → taskAt s t ≡ readyWord
+        → promiseAt s p ≡ ownedBy u → W u
         → got (F .base) s t p (promiseAt s p) ≡ outcome (Waits (length (s .tasks))) (withWait s t p) []
     unfolding followed
-    got-entered F f t p u r o m = got-owned F s f t p u (below u m) o ∙ ap (followed s t p) (walk-astray t r (length (s .tasks)) 1 u m)
+    got-entered F f t p u r o m =
+        got-owned F s f t p u (below u m) o ∙ ap (followed s t p) (walk-astray t r (length (s .tasks)) 1 u m)
 
   -- after any steps
-  stuck-run : (F : Form) (n : ℕ) (s : Tables) → Stuck s → (xs : List Step) → Same s (ran (untested F n) s xs)
-  stuck-run F n s st [] = λ v m. (refl, λ p w. refl)
-  stuck-run F n s st (x ∷ xs) =
+  stuck-run : (F : Form) (s : Tables) → Stuck s → (xs : List LentStep) → Same s (ran (untested F) s xs)
+  stuck-run F s st [] = λ v m. (refl, λ p w. refl)
+  stuck-run F s st ((n, x) ∷ xs) =
       let s′ = untested F n s x .after in
-      let one : Same s s′ = guarded-is _ (first (boundsRows F n s)) s (raw F s x) (Same s) (λ v m. (refl, λ p w. refl)) (λ z. same-did s st (did-raw F s x)) in
-      same-trans s s′ (ran (untested F n) s′ xs) one (stuck-run F n s′ (stuck-same s s′ st one) xs)
+      let one : Same s s′ =
+      guarded-is _ (first (boundsRows F n s)) s (raw F s x) (Same s) (λ v m. (refl, λ p w. refl))
+      (λ z. same-did s st (did-raw F s x)) in
+      same-trans s s′ (ran (untested F) s′ xs) one (stuck-run F s′ (stuck-same s s′ st one) xs)
 
 -- whoever waits on a promise of the crowd belongs to it
-joined : (W : ℕ → Type 0) (s : Tables) → Stuck W s → (t p u : ℕ) → taskAt s t ≡ readyWord → promiseAt s p ≡ ownedBy u → W u → Stuck (λ v. (v ≡ t) ⊎ W v) (withWait s t p)
+joined : (W : ℕ → Type 0) (s : Tables) → Stuck W s → (t p u : ℕ) → taskAt s t ≡ readyWord → promiseAt s p ≡ ownedBy u
+    → W u → Stuck (λ v. (v ≡ t) ⊎ W v) (withWait s t p)
 joined W s st t p u r o m v (inl e) =
     let b : t < length (s .tasks) = within-table (s .tasks) t (λ (z : taskAt s t ≡ 0). omega arith) in
     (p, u, ap (taskAt (withWait s t p)) e ∙ getD-set-same (s .tasks) t (waitsOn p) 0 b, o, inr m)
@@ -162,14 +175,17 @@ later {t = t} {ws = ws} v p u q k = record { waits = k .waits; owner = k .owner;
 pair-of : {s : Tables} {t v p : ℕ} {ws : List ℕ} → LeadsTo s t v p ws → {u q : ℕ} → Pair u q ws → InPair s t ws u q
 pair-of {t = t} (at-last w o) this-pair = record { waits = w; owner = t; owned = o; next = inl refl }
 pair-of (at-last w o) (later-pair i) = elim i [ ]
-pair-of (and-then {u = u} {q = q} w o n r) this-pair = record { waits = w; owner = u; owned = o; next = inr (q, later-pair (first-pair r)) }
+pair-of (and-then {u = u} {q = q} w o n r) this-pair =
+    record { waits = w; owner = u; owned = o; next = inr (q, later-pair (first-pair r)) }
 pair-of (and-then w o n r) (later-pair i) = later _ _ _ _ (pair-of r i)
 
 -- the same words, the same ring
 leads-same : {s s′ : Tables} {t v p : ℕ} {ws : List ℕ} → LeadsTo s t v p ws
-    → ((u q : ℕ) → Pair u q ws → taskAt s u ≡ waitsOn q → (taskAt s′ u ≡ taskAt s u) × (promiseAt s′ q ≡ promiseAt s q)) → LeadsTo s′ t v p ws
+    → ((u q : ℕ) → Pair u q ws → taskAt s u ≡ waitsOn q → (taskAt s′ u ≡ taskAt s u) × (promiseAt s′ q ≡ promiseAt s q))
+    → LeadsTo s′ t v p ws
 leads-same (at-last {v = v} {p = p} w o) same = let (a, b) = same v p this-pair w in at-last (a ∙ w) (b ∙ o)
-leads-same (and-then {v = v} {p = p} w o n r) same = let (a, b) = same v p this-pair w in and-then (a ∙ w) (b ∙ o) n (leads-same r (λ u q i. same u q (later-pair i)))
+leads-same (and-then {v = v} {p = p} w o n r) same =
+    let (a, b) = same v p this-pair w in and-then (a ∙ w) (b ∙ o) n (leads-same r (λ u q i. same u q (later-pair i)))
 
 module _ (s : Tables) (t p : ℕ) (ws : List ℕ) (ring : Stands s t p ws) where
   -- who runs into a ring waits for another who does
@@ -183,31 +199,40 @@ module _ (s : Tables) (t p : ℕ) (ws : List ℕ) (ring : Stands s t p ws) where
       next-pair (inr j) = j
   into-stuck v (behind-it {u = u} q w o r) = (q, u, w, o, r)
 
-  module _ (F : Form) (n : ℕ) where
+  module _ (F : Form) where
     -- after any steps the ring stands, and who runs into it still waits
-    pub ring-stays : (xs : List Step) → Stands (ran (untested F n) s xs) t p ws
-    ring-stays xs = leads-same ring (λ u q i w. let (a, b) = stuck-run (RunsInto s ws) F n s into-stuck xs u (of-the-ring i) in (a, b q w))
+    pub ring-stays : (xs : List LentStep) → Stands (ran (untested F) s xs) t p ws
+    ring-stays xs =
+        leads-same ring
+        (λ u q i w. let (a, b) = stuck-run (RunsInto s ws) F s into-stuck xs u (of-the-ring i) in (a, b q w))
 
-    pub into-stays : (v q : ℕ) → RunsInto s ws v → taskAt s v ≡ waitsOn q → (xs : List Step) → taskAt (ran (untested F n) s xs) v ≡ waitsOn q
-    into-stays v q r w xs = stuck-run (RunsInto s ws) F n s into-stuck xs v r .0 ∙ w
+    pub into-stays : (v q : ℕ) → RunsInto s ws v → taskAt s v ≡ waitsOn q → (xs : List LentStep)
+        → taskAt (ran (untested F) s xs) v ≡ waitsOn q
+    into-stays v q r w xs = stuck-run (RunsInto s ws) F s into-stuck xs v r .0 ∙ w
 
     -- whoever then waits on a promise of one who runs into it waits as long
-    pub outsider-stays : (v q u : ℕ) → taskAt s v ≡ readyWord → promiseAt s q ≡ ownedBy u → RunsInto s ws u → (xs : List Step)
-        → taskAt (ran (untested F n) (withWait s v q) xs) v ≡ waitsOn q
+    pub outsider-stays : (v q u : ℕ) → taskAt s v ≡ readyWord → promiseAt s q ≡ ownedBy u → RunsInto s ws u
+        → (xs : List LentStep) → taskAt (ran (untested F) (withWait s v q) xs) v ≡ waitsOn q
     outsider-stays v q u r o i xs =
         let b : v < length (s .tasks) = within-table (s .tasks) v (λ (z : taskAt s v ≡ 0). omega arith) in
-        stuck-run (λ x. (x ≡ v) ⊎ RunsInto s ws x) F n (withWait s v q) (joined (RunsInto s ws) s into-stuck v q u r o i) xs v (inl refl) .0
+        let st = joined (RunsInto s ws) s into-stuck v q u r o i in
+        stuck-run (λ x. (x ≡ v) ⊎ RunsInto s ws x) F (withWait s v q) st xs v (inl refl) .0
         ∙ getD-set-same (s .tasks) v (waitsOn q) 0 b
 
-    module _ (apart : Apart F) (bounds : inBounds F n s ≡ true) where
+    module _ (apart : Apart F) (sizes : sizesFit F s ≡ true) (n : ℕ) (room : roomOf s ≤ n) where
+      bounds : inBounds F n s ≡ true
+      bounds = inBounds-both F n s sizes room
+
       -- a get whose owners run into the ring is entered
       pub outsider-entered : (v q u : ℕ) → taskAt s v ≡ readyWord → promiseAt s q ≡ ownedBy u → RunsInto s ws u
           → untested F n s (step-get v q) ≡ outcome (Waits (length (s .tasks))) (withWait s v q) []
       unfolding first
       outsider-entered v q u r o i =
           guarded-none _ (first (boundsRows F n s)) s _ (rw bounds)
-          ∙ guarded-none _ _ s _ (ready-acts (s .tasks) v r (getRows (s .promises) q) ∙ made-passes (s .promises) q (λ (z : promiseAt s q ≡ unmadeWord). omega arith))
-          ∙ got-entered (RunsInto s ws) s into-stuck F (fits F apart n s bounds) v q u r o i
+          ∙ guarded-none _ _ s _
+          (ready-acts (s .tasks) v r (getRows (s .promises) q)
+          ∙ made-passes (s .promises) q (λ (z : promiseAt s q ≡ unmadeWord). omega arith))
+          ∙ got-entered (RunsInto s ws) s into-stuck F (fits F apart s sizes) v q u r o i
 
       -- with the test, every step is refused by 2
       pub ring-refused : (x : Step) → step F n s x ≡ outcome (Refused 2) s []
@@ -215,33 +240,42 @@ module _ (s : Tables) (t p : ℕ) (ws : List ℕ) (ring : Stands s t p ws) where
       ring-refused x = go (soundTest (F .base) s) refl
         where
           go : (b : Bool) → soundTest (F .base) s ≡ b → step F n s x ≡ outcome (Refused 2) s []
-          go true e = absurd (not-sound (RunsInto s ws) s into-stuck (F .base) t (of-the-ring (first-pair ring)) (soundTest-sound (F .base) s (fits F apart n s bounds) e))
+          go true e =
+              let sd = soundTest-sound (F .base) s (fits F apart s sizes) e in
+              absurd (not-sound (RunsInto s ws) s into-stuck (F .base) t (of-the-ring (first-pair ring)) sd)
           go false e = rw (bounds, e)
 
 -- ---- the ring of an alarm
 
 -- an alarm of the rules without the test, on a promise that a task owns
-module _ (F : Form) (apart : Apart F) (n : ℕ) (s : Tables) (t p k u : ℕ) (h : u < length (s .tasks)) (o : promiseAt s p ≡ ownedBy u) where
+module _ (F : Form) (apart : Apart F) (n : ℕ) (s : Tables) (t p k u : ℕ) (h : u < length (s .tasks))
+    (o : promiseAt s p ≡ ownedBy u) where
   -- had the wait been entered, its ring would stand
-  untested-stands : untested F n s (step-get t p) .answer ≡ Cycle k → Stands (withWait s t p) t p (untested F n s (step-get t p) .words)
+  untested-stands : untested F n s (step-get t p) .answer ≡ Cycle k
+      → Stands (withWait s t p) t p (untested F n s (step-get t p) .words)
   untested-stands alarm =
       let (y, z, e) = let-through F s (step-get t p) (boundsRows F n s) (Cycle k) (λ r. elim r [ ]) alarm in
       let (act, z₁) = actorRows-none (s .tasks) t (getRows (s .promises) p) z in
-      followed-stands s t p (act .below) k u o (untested F n s (step-get t p)) (e ∙ got-owned F s (fits F apart n s (bounds-past F n s y)) t p u h o) alarm
+      let f = fits F apart s (inBounds-sizes F n s (bounds-past F n s y)) in
+      followed-stands s t p (act .below) k u o (untested F n s (step-get t p)) (e ∙ got-owned F s f t p u h o) alarm
 
-  pub untested-stays : untested F n s (step-get t p) .answer ≡ Cycle k → (xs : List Step) → Stands (hadWaited F n s t p xs) t p (untested F n s (step-get t p) .words)
-  untested-stays alarm = ring-stays (withWait s t p) t p _ (untested-stands alarm) F n
+  pub untested-stays : untested F n s (step-get t p) .answer ≡ Cycle k → (xs : List LentStep)
+      → Stands (hadWaited F s t p xs) t p (untested F n s (step-get t p) .words)
+  untested-stays alarm = ring-stays (withWait s t p) t p _ (untested-stands alarm) F
 
 -- an alarm
-module _ (F : Form) (apart : Apart F) (n : ℕ) (s : Tables) (t p k : ℕ) (alarm : step F n s (step-get t p) .answer ≡ Cycle k) where
-  pub alarm-stays : (xs : List Step) → Stands (hadWaited F n s t p xs) t p (step F n s (step-get t p) .words)
-  alarm-stays = ring-stays (withWait s t p) t p _ (alarm-means F apart n s t p k alarm .ring) F n
+module _ (F : Form) (apart : Apart F) (n : ℕ) (s : Tables) (t p k : ℕ)
+    (alarm : step F n s (step-get t p) .answer ≡ Cycle k) where
+  pub alarm-stays : (xs : List LentStep) → Stands (hadWaited F s t p xs) t p (step F n s (step-get t p) .words)
+  alarm-stays = ring-stays (withWait s t p) t p _ (alarm-means F apart n s t p k alarm .ring) F
 
-  pub alarm-real : (xs : List Step) (u q : ℕ) → Pair u q (step F n s (step-get t p) .words) → taskAt (hadWaited F n s t p xs) u ≡ waitsOn q
+  pub alarm-real : (xs : List LentStep) (u q : ℕ) → Pair u q (step F n s (step-get t p) .words)
+      → taskAt (hadWaited F s t p xs) u ≡ waitsOn q
   alarm-real xs u q i = pair-of (alarm-stays xs) i .waits
 
   -- the tables stay as long as they were
-  pub alarm-bounds : (xs : List Step) → inBounds F n (hadWaited F n s t p xs) ≡ true
-  alarm-bounds xs =
+  pub alarm-sizes : (xs : List LentStep) → sizesFit F (hadWaited F s t p xs) ≡ true
+  alarm-sizes xs =
       let g = accepted-good F apart n s (step-get t p) (Cycle k) (λ r. elim r [ ]) alarm in
-      inBounds-kept F n (as-long-too (ran-lengths F n (withWait s t p) xs) (long-tasks s (length-set (s .tasks) t (waitsOn p)))) (g .bounds)
+      let entered = long-tasks s (length-set (s .tasks) t (waitsOn p)) in
+      sizesFit-kept F (as-long-too (ran-lengths F (withWait s t p) xs) entered) (g .sizes)

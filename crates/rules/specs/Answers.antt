@@ -1,15 +1,19 @@
 -- The paper's number and values for each answer. Paper: 01, "The five steps", "Refusals by number", "Lines"; 02, 3/13.
 --
---   laid a                the layout of an answer: whether it refuses, its number, and its values, each with how many words of the report follow it. All else is
---                         read off it: both forms of an answer, in four words and as a line
+--   laid a                the layout of an answer: whether it refuses, its number, and its values, each with how many
+--                         words of the report follow it. All else is read off it: both forms of an answer, in four
+--                         words and as a line
 --   numberOf a            a refusal's number; for any other answer a number of ours, from 100 on
 --   valuesOf a            the counts and numbers that the answer carries, in the order of the answer line
 --   wordCount a           how many words of the report are the answer's own
+--   answerOf n vs         the answer that a number and values tell
+--   SameWords a a′        the four words of two answers, number and values, are the same: 0 where there is no value
 --   byNumber r            the refusal by r, which tells nothing else
 --   refusedWith b r       the refusal by r, where b is the task to blame
 --   refusedAtWith b i r   the refusal by r of the list entry at the place i, where b is the task to blame
 -- Assumes nothing.
 use Prim.Native.Nat.{ℕ, _+_, _*_, _-_}
+use mathlib.Core.Path.{_≡_}
 use mathlib.Core.List.{List, [], _∷_, _++_}
 use mathlib.Core.Bool.{Bool, true, false, cond}
 use lib.Dec.{eqb, ltb}
@@ -17,7 +21,8 @@ use lib.ListN.{getD}
 use Rattle.rules.specs.declared.Part.{Part}
 use Rattle.rules.specs.declared.Layout.{Layout}
 use Rattle.rules.specs.declared.Answer.{Answer}
-use Rattle.rules.specs.declared.Answer.the-variants.{Opened, Made, Set, Value, Blamed, Waits, Cycle, Started, Ended, Refused, RefusedAt, RefusedBlamed, RefusedBlamedAt}
+use Rattle.rules.specs.declared.Answer.the-variants.{Opened, Made, Set, Value, Blamed, Waits, Cycle, Started}
+use Rattle.rules.specs.declared.Answer.the-variants.{Ended, Refused, RefusedAt, RefusedBlamed, RefusedBlamedAt}
 
 abbrev pub none : Part
 none = record { told = false; value = 0; words = 0 }
@@ -77,6 +82,13 @@ accepted v w = Opened ∷ Made ∷ Set v ∷ Value ∷ Blamed v ∷ Waits v ∷ 
 
 unfoldable pub answerOf : ℕ → List ℕ → Answer
 answerOf n vs = cond (ltb n 100) (refusalOf n vs) (getD (accepted (getD vs 0 0) (getD vs 1 0)) (n - 100) Opened)
+
+-- the four words of two answers, for callers that know numbers alone; a value that is not there is 0
+pub record SameWords (a a′ : Answer) : Type 0 where
+  pub number : laid a .number ≡ laid a′ .number
+  pub first : laid a .first .value ≡ laid a′ .first .value
+  pub second : laid a .second .value ≡ laid a′ .second .value
+  pub third : laid a .third .value ≡ laid a′ .third .value
 
 -- by its number alone
 abbrev pub byNumber : ℕ → Answer

@@ -1,18 +1,21 @@
 -- What is demanded of the rules, as statements. The theorems stand in proofs/Promises.antt.
 --
---   Apart F, Good F n s                 a form whose owned and blamed words do not meet; tables within their bounds, and sound
---   numbers rows, paperRows x           the numbers of the rows; those of the paper's table
---   paperNumbers x, stepNumbers         all numbers that a step, and that any step, may be refused by
---   FirstGiven r rows                   r is the number of the first row that applies
---   BadPlace B s t list i               i is the first bad place of an async list
---   Refusal a, HowRefused F s x a       the answer a is a refusal; it refuses the step x by a row, or for an entry of a list
---   OwnersFrom s p l                    l are the owners that follow from p, to a ready task
---   LeadsTo s t v p ws                  from v, which waits on p, the pairs ws lead to t
---   Stands s t p ws                     the ring of the pairs ws stands: from t, which waits on p, they lead back to t
---   Alarm, Wait, Named, Woken, Demand3  what an alarm, a wait, an end, a set means; demand 3
---   hadWaited F n s t p xs              the tables, had t waited on p and the steps xs followed, without the soundness test
---   Pair u q ws                         u and q are a pair of the report ws
---   RunsInto s ws v                     the chain of v runs into the ring of the pairs ws
+--   Apart F                        a form whose owned and blamed words do not meet
+--   Good F s                       tables whose sizes fit, and sound
+--   numbers rows, paperRows x      the numbers of the rows; those of the paper's table
+--   paperNumbers x, stepNumbers    all numbers that a step, and that any step, may be refused by
+--   FirstGiven r rows              r is the number of the first row that applies
+--   NoneGiven rows                 none of the rows applies
+--   BadPlace B ps t list r i       i is the first bad place of an async list of t, and its refusal is r
+--   Refusal a, HowRefused F s x a  a is a refusal; it refuses the step x by a row, or for an entry of a list
+--   OwnersFrom s p l               l are the owners that follow from p, to a ready task
+--   LeadsTo s t v p ws             from v, which waits on p, the pairs ws lead to t
+--   Stands s t p ws                the ring of the pairs ws stands: from t, which waits on p, they lead back to t
+--   Alarm, Wait, Named, Woken      what an alarm, a wait, an end, a set means
+--   Demand3 F s                    demand 3, of the tables s
+--   hadWaited F s t p xs           the tables, had t waited on p and the steps xs followed, without the soundness test
+--   Pair u q ws                    u and q are a pair of the report ws
+--   RunsInto s ws v                the chain of v runs into the ring of the pairs ws
 -- Assumes nothing.
 use mathlib.Core.Path.{_≡_}
 use mathlib.Core.Logic.{_≢_}
@@ -22,20 +25,21 @@ use Prim.Native.Nat.{ℕ, suc, _+_, _≤_, _<_}
 use lib.ListN.{length, take}
 use Rattle.words.specs.Words.{Form, readyWord, endedWord, waitsOn, setWord, firstOwned, ownedBy, blamedOn}
 use Rattle.words.specs.Lists.{In, Rising}
-use Rattle.rules.specs.Tables.{Tables, inBounds, taskAt, promiseAt, liveTasks}
+use Rattle.rules.specs.Tables.{Tables, sizesFit, roomOf, taskAt, promiseAt, Live, liveTasks}
 use Rattle.rules.specs.Chains.{Chain, chainEnd, waits}
-use Rattle.rules.specs.Sound.{Live, Sound}
+use Rattle.rules.specs.Sound.{Sound}
 use Rattle.rules.specs.Answers.{refusedAtWith}
 use Rattle.rules.specs.Refusals.{Row, entryRows}
-use Rattle.rules.specs.Steps.{Step, step-new, step-set, step-get, step-async, step-end, actor, Outcome, withWait, stepRefused, step, untested, ran, run}
+use Rattle.rules.specs.Steps.{Step, step-new, step-set, step-get, step-async, step-end, actor, Outcome, withWait}
+use Rattle.rules.specs.Steps.{stepRefused, step, untested, LentStep, ran, run}
 use Rattle.rules.specs.declared.Answer.{Answer}
 use Rattle.rules.specs.declared.Answer.the-variants.{Ended, Refused, RefusedAt, RefusedBlamed, RefusedBlamedAt}
 
 abbrev pub Apart : Form → Type 0
 Apart F = firstOwned + F .mostTasks ≤ F .base
 
-pub record Good (F : Form) (n : ℕ) (s : Tables) : Type 0 where
-  pub bounds : inBounds F n s ≡ true
+pub record Good (F : Form) (s : Tables) : Type 0 where
+  pub sizes : sizesFit F s ≡ true
   pub sound : Sound (F .base) s
 
 -- ---- demand 1: "Bad input is refused by number in a fixed order; a refusal changes no table and no report"
@@ -45,7 +49,8 @@ abbrev pub numbers : List Row → List ℕ
 numbers [] = []
 numbers ((r, applies) ∷ rows) = r ∷ numbers rows
 
--- the paper's table, from the top, and its last column: which refusals a step has, and in which order; 02, 3/13, puts 17 directly after 9
+-- the paper's table, from the top, and its last column: which refusals a step has, and in which order; 02, 3/13, puts
+-- 17 directly after 9
 abbrev pub paperRows : Step → List ℕ
 paperRows (step-new t p) = 1 ∷ 2 ∷ 3 ∷ 4 ∷ 5 ∷ 6 ∷ 7 ∷ []
 paperRows (step-set t p) = 1 ∷ 2 ∷ 3 ∷ 4 ∷ 5 ∷ 6 ∷ 8 ∷ 9 ∷ 17 ∷ 10 ∷ []
@@ -99,27 +104,31 @@ pub data HowRefused (F : Form) (s : Tables) (x : Step) : Answer → Type 0 where
 
 -- "t1 owns p, t2 owns what t1 awaits, and so on, until .. a ready task"
 pub data OwnersFrom (s : Tables) (p : ℕ) : List ℕ → Type 0 where
-  owners : {u : ℕ} {l : List ℕ} → u < length (s .tasks) → promiseAt s p ≡ ownedBy u → Chain (waits s) u l → OwnersFrom s p (u ∷ l)
+  owners : {u : ℕ} {l : List ℕ} → u < length (s .tasks) → promiseAt s p ≡ ownedBy u → Chain (waits s) u l
+      → OwnersFrom s p (u ∷ l)
 
--- "k pairs: t and p, then each next task on the way and what it awaits, up to the one that awaits a promise of t": v waits on p, the owner of p on the promise that it
--- is shown with, and so on
+-- "k pairs: t and p, then each next task on the way and what it awaits, up to the one that awaits a promise of t": v
+-- waits on p, the owner of p on the promise that it is shown with, and so on
 pub data LeadsTo (s : Tables) (t : ℕ) : ℕ → ℕ → List ℕ → Type 0 where
   at-last : {v p : ℕ} → taskAt s v ≡ waitsOn p → promiseAt s p ≡ ownedBy t → LeadsTo s t v p (v ∷ p ∷ [])
-  and-then : {v p u q : ℕ} {ws : List ℕ} → taskAt s v ≡ waitsOn p → promiseAt s p ≡ ownedBy u → u ≢ t → LeadsTo s t u q ws → LeadsTo s t v p (v ∷ p ∷ ws)
+  and-then : {v p u q : ℕ} {ws : List ℕ} → taskAt s v ≡ waitsOn p → promiseAt s p ≡ ownedBy u → u ≢ t
+      → LeadsTo s t u q ws → LeadsTo s t v p (v ∷ p ∷ ws)
 
 abbrev pub Stands : Tables → ℕ → ℕ → List ℕ → Type 0
 Stands s t p ws = LeadsTo s t t p ws
 
--- t gets p and alarms after k owners: t is ready and not refused, the owners from p lead back to t, and the report shows the ring that would stand if t waited on p
+-- t gets p and alarms after k owners: t is ready and not refused, the owners from p lead back to t, and the report
+-- shows the ring that would stand if t waited on p
 pub record Alarm (s : Tables) (t p k : ℕ) (ws : List ℕ) : Type 0 where
   pub ready : taskAt s t ≡ readyWord
   pub links : List ℕ
   pub owners : OwnersFrom s p links
-  pub back : chainEnd t links ≡ t
+  pub back : In t links
   pub count : k ≡ length links
   pub ring : Stands (withWait s t p) t p ws
 
--- t gets p and waits after k owners: t is ready and not refused, and the owners from p come to a ready task without leading back to t
+-- t gets p and waits after k owners: t is ready and not refused, and the owners from p come to a ready task without
+-- leading back to t
 pub record Wait (s : Tables) (t p k : ℕ) : Type 0 where
   pub ready : taskAt s t ≡ readyWord
   pub links : List ℕ
@@ -161,35 +170,43 @@ pub record Woken (s : Tables) (p n : ℕ) (o : Outcome) : Type 0 where
 
 -- ---- demand 3
 
--- the ends of the tasks of a chain, farthest first
-abbrev pub ends : List ℕ → List Step
-ends [] = []
-ends (u ∷ l) = ends l ++ step-end u ∷ []
+-- the ends of the tasks of a chain, farthest first; that of u is lent a report of n u words
+abbrev pub ends : (ℕ → ℕ) → List ℕ → List LentStep
+ends n [] = []
+ends n (u ∷ l) = ends n l ++ (n u, step-end u) ∷ []
 
 -- each of the steps is an end that is accepted when its turn comes
-pub data AllEnd (F : Form) (n : ℕ) : Tables → List Step → Type 0 where
-  no-end : {s : Tables} → AllEnd F n s []
-  an-end : {s : Tables} {x : Step} {xs : List Step} (m k : ℕ) → step F n s x .answer ≡ Ended m k → AllEnd F n (step F n s x .after) xs → AllEnd F n s (x ∷ xs)
+pub data AllEnd (F : Form) : Tables → List LentStep → Type 0 where
+  no-end : {s : Tables} → AllEnd F s []
+  an-end : {s : Tables} {n : ℕ} {x : Step} {xs : List LentStep} (m k : ℕ)
+      → step F n s x .answer ≡ Ended m k → AllEnd F (step F n s x .after) xs → AllEnd F s ((n, x) ∷ xs)
 
-pub record Demand3 (F : Form) (n : ℕ) (s : Tables) : Type 0 where
+pub record Demand3 (F : Form) (s : Tables) : Type 0 where
   -- "while a task is live, some live task is ready"
   pub some-ready : (v : ℕ) → Live (taskAt s v) → (e : ℕ) × (taskAt s e ≡ readyWord)
   -- "each waiting task has one chain to a ready task, with at most one link fewer than live tasks"
   pub one-chain : (v p : ℕ) → taskAt s v ≡ waitsOn p
-      → (l : List ℕ) × Chain (waits s) v l × ((l′ : List ℕ) → Chain (waits s) v l′ → l ≡ l′) × (suc (length l) ≤ liveTasks s)
-  -- "no step by any task but the one at its end alters that chain": its links stay, and so does the word of each task on it and of each promise between them
-  pub kept : (x : Step) (v : ℕ) (l : List ℕ) → Chain (waits s) v l → actor x ≢ chainEnd v l
-      → Chain (waits (step F n s x .after)) v l × ((y : ℕ) → In y (v ∷ l) → taskAt (step F n s x .after) y ≡ taskAt s y)
+      → (l : List ℕ) × Chain (waits s) v l × ((l′ : List ℕ) → Chain (waits s) v l′ → l ≡ l′)
+      × (suc (length l) ≤ liveTasks s)
+  -- "no step by any task but the one at its end alters that chain", whatever report it is lent: its links stay, and so
+  -- does the word of each task on it and of each promise between them
+  pub kept : (n : ℕ) (x : Step) (v : ℕ) (l : List ℕ) → Chain (waits s) v l → actor x ≢ chainEnd v l
+      → Chain (waits (step F n s x .after)) v l
+      × ((y : ℕ) → In y (v ∷ l) → taskAt (step F n s x .after) y ≡ taskAt s y)
       × ((y p : ℕ) → In y (v ∷ l) → taskAt s y ≡ waitsOn p → promiseAt (step F n s x .after) p ≡ promiseAt s p)
-  -- "ending its k tasks in turn, farthest first, makes the waiter ready at the k-th end and no sooner"
-  pub in-turn : (v : ℕ) (l : List ℕ) → Chain (waits s) v l
-      → AllEnd F n s (ends l) × ((j : ℕ) → j < length l → taskAt (run F n s (take j (ends l))) v ≡ taskAt s v) × (taskAt (run F n s (ends l)) v ≡ readyWord)
+  -- "ending its k tasks in turn, farthest first, makes the waiter ready at the k-th end and no sooner": each end with a
+  -- report of its own that has room
+  pub in-turn : (v : ℕ) (l : List ℕ) → Chain (waits s) v l → (n : ℕ → ℕ) → ((u : ℕ) → In u l → roomOf s ≤ n u)
+      → AllEnd F s (ends n l)
+      × ((j : ℕ) → j < length l → taskAt (run F s (take j (ends n l))) v ≡ taskAt s v)
+      × (taskAt (run F s (ends n l)) v ≡ readyWord)
 
 -- ---- request 4: "Show that the alarm is real"
 
--- "had the alarmed wait been entered anyway, then after any further accepted steps", by "the step rules, read without the soundness test"
-abbrev pub hadWaited : Form → ℕ → Tables → ℕ → ℕ → List Step → Tables
-hadWaited F n s t p xs = ran (untested F n) (withWait s t p) xs
+-- "had the alarmed wait been entered anyway, then after any further accepted steps", by "the step rules, read without
+-- the soundness test"
+abbrev pub hadWaited : Form → Tables → ℕ → ℕ → List LentStep → Tables
+hadWaited F s t p xs = ran (untested F) (withWait s t p) xs
 
 -- in the pairs that an alarm reports, the task u is shown with the promise q
 pub data Pair (u q : ℕ) : List ℕ → Type 0 where

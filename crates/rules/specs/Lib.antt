@@ -5,6 +5,7 @@ pub mod Answers
 pub mod Refusals
 pub mod Steps
 pub mod ProvedSet
+pub mod LaterSets
 pub mod Demands
 pub mod Published
 pub mod Contracts

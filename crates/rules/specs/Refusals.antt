@@ -10,7 +10,7 @@
 --   getRows ps p           6 and 8
 --   ownRows B ps t p       6, 8, 9, 17 and 10
 --   entryRows B ps t l i   6, 8, 9, 17, 10 and 13, of entry i of an async list
---   firstBad f n i         the first place from i on whose refusal by f is not 0, of n places; i + n where there is none
+--   firstBad f n i         of the n places from i on, the first that f refuses; i + n where f refuses none of them
 --   freshRows F T P, freshRefusal F T P   1, of making tables fresh: by their sizes alone
 -- Assumes nothing.
 use Prim.Native.Nat.{ℕ, zero, suc}
@@ -93,7 +93,7 @@ entryRows B ps t list i =
 unfoldable pub entryRefusal : ℕ → List ℕ → ℕ → List ℕ → ℕ → ℕ
 entryRefusal B ps t list i = first (entryRows B ps t list i)
 
--- "the first bad one gives its refusal with its place, counted from 0"
+-- the first bad one of the places i to i + n - 1, or i + n: f gives each place its refusal, or 0
 unfoldable pub firstBad : (ℕ → ℕ) → ℕ → ℕ → ℕ
 firstBad f zero i = i
 firstBad f (suc n) i = cond (eqb (f i) 0) (firstBad f n (suc i)) i

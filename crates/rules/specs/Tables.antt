@@ -3,16 +3,20 @@
 --   Tables, tables ts ps      the task table and the promise table, as lists of words
 --   withTasks s ts, withPromises s ps, withWords s ts ps   the tables s with other words
 --   partOf T P s, putBack T P s s′   the first T and P words of the tables s; these words replaced by s′
---   sizesFit F s, inBounds F n s   the lengths of the tables are within their bounds; and so is the report's length n
+--   sizesFit F s              the lengths of the tables are within their bounds
+--   roomOf s                  the words of a report that has room for every answer on the tables s
+--   inBounds F n s            the sizes fit, and a report of n words has room
 --   taskAt s t, promiseAt s p the word of task t, of promise p; 0 past the table's end
---   live w, waiting w         a task with the word w is ready or waits; it waits
+--   live w, Live w, waiting w a task with the word w is ready or waits, as a test and as a statement; it waits
+--   liveTasks s               how many tasks are live
 --   closed B w                a promise with the word w is set or blamed
 --   blamedTask B s p          the task that p is blamed on, if it is blamed
 --   fresh T P                 fresh tables
 -- Assumes nothing.
 use Prim.Native.Nat.{ℕ, _-_}
+use mathlib.Core.Path.{_≡_}
 use mathlib.Core.List.{List, _++_}
-use mathlib.Core.Bool.{Bool, _&&_, _||_}
+use mathlib.Core.Bool.{Bool, true, _&&_, _||_}
 use lib.Dec.{eqb, leb}
 use lib.ListN.{length, getD, set, replicate, take, drop}
 use Rattle.words.specs.Words.{Form, sizesInBounds, roomFor, readyWord, firstWait, setWord}
@@ -47,9 +51,13 @@ putBack T P s s′ = tables (s′ .tasks ++ drop T (s .tasks)) (s′ .promises +
 unfoldable pub sizesFit : Form → Tables → Bool
 sizesFit F s = sizesInBounds F (length (s .tasks)) (length (s .promises))
 
--- "and a report of at least P + 2T words": the one test of all lengths
+-- "and a report of at least P + 2T words"
+abbrev pub roomOf : Tables → ℕ
+roomOf s = roomFor (length (s .tasks)) (length (s .promises))
+
+-- the one test of all lengths
 unfoldable pub inBounds : Form → ℕ → Tables → Bool
-inBounds F n s = sizesFit F s && leb (roomFor (length (s .tasks)) (length (s .promises))) n
+inBounds F n s = sizesFit F s && leb (roomOf s) n
 
 -- "Tasks are numbered 0 to T-1, promises 0 to P-1"
 abbrev pub taskAt : Tables → ℕ → ℕ
@@ -64,6 +72,9 @@ waiting w = leb firstWait w
 
 abbrev pub live : ℕ → Bool
 live w = eqb w readyWord || waiting w
+
+abbrev pub Live : ℕ → Type 0
+Live w = live w ≡ true
 
 abbrev pub liveTasks : Tables → ℕ
 liveTasks s = count live (s .tasks)

@@ -12,6 +12,10 @@ pub not-is-false : (b : Bool) → not b ≡ false → b ≡ true
 not-is-false true e = refl
 not-is-false false e = sym e
 
+pub not-is-true : (b : Bool) → not b ≡ true → b ≡ false
+not-is-true true e = sym e
+not-is-true false e = refl
+
 pub cond-true : {A : Type 0} (b : Bool) (x y : A) → b ≡ true → cond b x y ≡ x
 cond-true b x y e = rw e
 
