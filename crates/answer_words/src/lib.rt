@@ -6,25 +6,34 @@ use table_access::put;
 ghost use mathlib.Core.Path.{_≡_};
 ghost use mathlib.Core.List.{[], _∷_};
 ghost use lib.Seq.{sets};
-ghost use Rattle.rules.specs.Answers.{withNone, withOne, withTwo, laid, numberOf, wordCount};
+ghost use Rattle.rules.specs.Answers.{none, layout as layoutOf, withNone, withOne, withTwo, laid, numberOf, wordCount};
 ghost use Rattle.answer_words.specs.AnswerWords.{answerWords};
 
-// The layout of an answer without values.
+// No value.
+const NONE: Part = Part {
+    told: false,
+    value: 0,
+    words: 0,
+};
+
+// The layout of an answer with at most two values.
+fn with_parts(refuses: bool, number: u16, first: Part, second: Part) -> Layout
+    ensures { λ r. ⌜ r ≡ layoutOf refuses number first second none ⌝ }
+{
+    Layout {
+        refuses,
+        number,
+        first,
+        second,
+        third: NONE,
+    }
+}
+
+// With no value.
 fn with_none(refuses: bool, number: u16) -> Layout
     ensures { λ r. ⌜ r ≡ withNone refuses number ⌝ }
 {
-    let none = Part {
-        told: false,
-        value: 0,
-        words: 0,
-    };
-    Layout {
-        refuses: refuses,
-        number: number,
-        first: none,
-        second: none,
-        third: none,
-    }
+    with_parts(refuses, number, NONE, NONE)
 }
 
 // With one value, which `k` words of the report follow.
@@ -36,18 +45,7 @@ fn with_one(refuses: bool, number: u16, v: u16, k: u32) -> Layout
         value: v,
         words: k,
     };
-    let none = Part {
-        told: false,
-        value: 0,
-        words: 0,
-    };
-    Layout {
-        refuses: refuses,
-        number: number,
-        first: first,
-        second: none,
-        third: none,
-    }
+    with_parts(refuses, number, first, NONE)
 }
 
 // With two values, which `k` and `l` words follow.
@@ -64,18 +62,7 @@ fn with_two(refuses: bool, number: u16, v: u16, k: u32, w: u16, l: u32) -> Layou
         value: w,
         words: l,
     };
-    let none = Part {
-        told: false,
-        value: 0,
-        words: 0,
-    };
-    Layout {
-        refuses: refuses,
-        number: number,
-        first: first,
-        second: second,
-        third: none,
-    }
+    with_parts(refuses, number, first, second)
 }
 
 // The layout of an answer.

@@ -1,6 +1,7 @@
-// The registry for C and Rust: the steps as exported functions on numbers and slices of 16-bit words. A slice passes as a pointer and a length. A step returns its
-// answer's number and writes four words to `answer`: the number, then the answer's values, 0 where it has none. A batch takes its records as five words each, and
-// returns the refusal of the call, or 0.
+// The registry for C and Rust: the steps as exported functions on numbers and slices of 16-bit words. A slice passes
+// as a pointer and a length. A step returns its answer's number and writes four words to `answer`: the number, then
+// the answer's values, 0 where it has none. A batch takes its records as five words each, and returns the refusal of
+// the call, or 0.
 use answer_words::tell;
 use steps::step_async;
 use steps::step_end;
@@ -12,10 +13,10 @@ ghost use lib.ListN.{length};
 ghost use Rattle.words.specs.Words.{small};
 ghost use Rattle.rules.specs.Tables.{tables as tablesOf};
 ghost use Rattle.rules.specs.Sound.{soundTest};
-ghost use Rattle.rules.specs.Steps.{step, step-new, step-set, step-get, step-async, step-end};
+ghost use Rattle.rules.specs.Steps.{step-new, step-set, step-get, step-async, step-end};
 ghost use Rattle.rules.specs.Contracts.{Freshens};
 ghost use Rattle.batch_words.specs.Flat.{flatly, Flats};
-ghost use Rattle.registry.specs.Exports.{exported, Exports};
+ghost use Rattle.registry.specs.Exports.{ExportsStep};
 
 // Whether the tables are sound.
 #[no_mangle]
@@ -28,7 +29,8 @@ pub extern "C" fn registry_is_sound(tasks: &[u16], promises: &[u16]) -> bool
 // Makes the lent tables fresh: 0, or 1 if one is too short or too long.
 #[no_mangle]
 pub extern "C" fn registry_fresh(tasks: &mut [u16], promises: &mut [u16]) -> u16
-    ensures { λ r. ⌜ Freshens small (tablesOf (now (tasks .entry)) (now (promises .entry))) r (tablesOf (now (tasks .exit)) (now (promises .exit))) ⌝ }
+    ensures { λ r. ⌜ Freshens small (tablesOf (now (tasks .entry)) (now (promises .entry)))
+        r (tablesOf (now (tasks .exit)) (now (promises .exit))) ⌝ }
 {
     table_fresh::fresh(tasks, promises)
 }
@@ -42,7 +44,9 @@ pub extern "C" fn registry_step_new(
     p: u16,
     answer: &mut [u16],
 ) -> u16
-    ensures { λ r. ⌜ Exports (exported (tablesOf (now (tasks .entry)) (now (promises .entry))) (now (report .entry)) (now (answer .entry)) (step small (length (now (report .entry))) (tablesOf (now (tasks .entry)) (now (promises .entry))) (step-new t p))) r (tablesOf (now (tasks .exit)) (now (promises .exit))) (now (report .exit)) (now (answer .exit)) ⌝ }
+    ensures { λ r. ⌜ ExportsStep (step-new t p) (tablesOf (now (tasks .entry)) (now (promises .entry)))
+        (now (report .entry)) (now (answer .entry))
+        r (tablesOf (now (tasks .exit)) (now (promises .exit))) (now (report .exit)) (now (answer .exit)) ⌝ }
 {
     if answer.len() < 4 {
         return 1;
@@ -59,7 +63,9 @@ pub extern "C" fn registry_step_set(
     p: u16,
     answer: &mut [u16],
 ) -> u16
-    ensures { λ r. ⌜ Exports (exported (tablesOf (now (tasks .entry)) (now (promises .entry))) (now (report .entry)) (now (answer .entry)) (step small (length (now (report .entry))) (tablesOf (now (tasks .entry)) (now (promises .entry))) (step-set t p))) r (tablesOf (now (tasks .exit)) (now (promises .exit))) (now (report .exit)) (now (answer .exit)) ⌝ }
+    ensures { λ r. ⌜ ExportsStep (step-set t p) (tablesOf (now (tasks .entry)) (now (promises .entry)))
+        (now (report .entry)) (now (answer .entry))
+        r (tablesOf (now (tasks .exit)) (now (promises .exit))) (now (report .exit)) (now (answer .exit)) ⌝ }
 {
     if answer.len() < 4 {
         return 1;
@@ -76,7 +82,9 @@ pub extern "C" fn registry_step_get(
     p: u16,
     answer: &mut [u16],
 ) -> u16
-    ensures { λ r. ⌜ Exports (exported (tablesOf (now (tasks .entry)) (now (promises .entry))) (now (report .entry)) (now (answer .entry)) (step small (length (now (report .entry))) (tablesOf (now (tasks .entry)) (now (promises .entry))) (step-get t p))) r (tablesOf (now (tasks .exit)) (now (promises .exit))) (now (report .exit)) (now (answer .exit)) ⌝ }
+    ensures { λ r. ⌜ ExportsStep (step-get t p) (tablesOf (now (tasks .entry)) (now (promises .entry)))
+        (now (report .entry)) (now (answer .entry))
+        r (tablesOf (now (tasks .exit)) (now (promises .exit))) (now (report .exit)) (now (answer .exit)) ⌝ }
 {
     if answer.len() < 4 {
         return 1;
@@ -94,7 +102,10 @@ pub extern "C" fn registry_step_async(
     list: &[u16],
     answer: &mut [u16],
 ) -> u16
-    ensures { λ r. ⌜ Exports (exported (tablesOf (now (tasks .entry)) (now (promises .entry))) (now (report .entry)) (now (answer .entry)) (step small (length (now (report .entry))) (tablesOf (now (tasks .entry)) (now (promises .entry))) (step-async t c (now (list .entry))))) r (tablesOf (now (tasks .exit)) (now (promises .exit))) (now (report .exit)) (now (answer .exit)) ⌝ }
+    ensures { λ r. ⌜ ExportsStep (step-async t c (now (list .entry)))
+        (tablesOf (now (tasks .entry)) (now (promises .entry)))
+        (now (report .entry)) (now (answer .entry))
+        r (tablesOf (now (tasks .exit)) (now (promises .exit))) (now (report .exit)) (now (answer .exit)) ⌝ }
 {
     if answer.len() < 4 {
         return 1;
@@ -110,7 +121,9 @@ pub extern "C" fn registry_step_end(
     t: u16,
     answer: &mut [u16],
 ) -> u16
-    ensures { λ r. ⌜ Exports (exported (tablesOf (now (tasks .entry)) (now (promises .entry))) (now (report .entry)) (now (answer .entry)) (step small (length (now (report .entry))) (tablesOf (now (tasks .entry)) (now (promises .entry))) (step-end t))) r (tablesOf (now (tasks .exit)) (now (promises .exit))) (now (report .exit)) (now (answer .exit)) ⌝ }
+    ensures { λ r. ⌜ ExportsStep (step-end t) (tablesOf (now (tasks .entry)) (now (promises .entry)))
+        (now (report .entry)) (now (answer .entry))
+        r (tablesOf (now (tasks .exit)) (now (promises .exit))) (now (report .exit)) (now (answer .exit)) ⌝ }
 {
     if answer.len() < 4 {
         return 1;
@@ -127,7 +140,10 @@ pub extern "C" fn registry_batch(
     list: &[u16],
     answers: &mut [u16],
 ) -> u16
-    ensures { λ r. ⌜ Flats (flatly small (now (list .entry)) (tablesOf (now (tasks .entry)) (now (promises .entry))) (now (steps .entry)) (length (now (report .entry))) (length (now (answers .entry)))) (now (report .entry)) (now (answers .entry)) r (tablesOf (now (tasks .exit)) (now (promises .exit))) (now (report .exit)) (now (answers .exit)) ⌝ }
+    ensures { λ r. ⌜ Flats (flatly small (now (list .entry)) (tablesOf (now (tasks .entry)) (now (promises .entry)))
+        (now (steps .entry)) (length (now (report .entry))) (length (now (answers .entry))))
+        (now (report .entry)) (now (answers .entry))
+        r (tablesOf (now (tasks .exit)) (now (promises .exit))) (now (report .exit)) (now (answers .exit)) ⌝ }
 {
     batch_words::batch_words(tasks, promises, report, steps, list, answers)
 }

@@ -1,4 +1,5 @@
-// The step async: a child that was never used becomes ready, and every listed promise passes from the acting task to it, or none does.
+// The step async: a child that was never used becomes ready, and every listed promise passes from the acting task to
+// it, or none does.
 ghost use mathlib.Core.Path.{_≡_};
 ghost use mathlib.Core.List.{[], _∷_};
 ghost use mathlib.Core.Bool.{true, not};
@@ -24,7 +25,8 @@ use words::TaskWord;
 
 // Refusals 3, 4, 5, 11 and 12.
 fn refusal(tasks: &[u16], promises: &[u16], t: u16, c: u16, list: &[u16]) -> u16
-    ensures { λ r. ⌜ r ≡ first (rows small (tablesOf (now (tasks .entry)) (now (promises .entry))) (step-async t c (now (list .entry)))) ⌝ }
+    ensures { λ r. ⌜ r ≡ first (rows small (tablesOf (now (tasks .entry)) (now (promises .entry)))
+        (step-async t c (now (list .entry)))) ⌝ }
 {
     let a = actor_refusal(tasks, t);
     let b = child_refusal(tasks, c);
@@ -57,7 +59,8 @@ fn entry_refusal(promises: &[u16], t: u16, list: &[u16], k: usize) -> u16
 
 // The first bad place, and the list's length where there is none.
 fn first_bad(promises: &[u16], t: u16, list: &[u16]) -> usize
-    ensures { λ r. ⌜ r ≡ firstBad (entryRefusal (small .base) (now (promises .entry)) t (now (list .entry))) (length (now (list .entry))) 0 ⌝ }
+    ensures { λ r. ⌜ r ≡ firstBad (entryRefusal (small .base) (now (promises .entry)) t (now (list .entry)))
+        (length (now (list .entry))) 0 ⌝ }
 {
     let mut i = 0;
     while i < list.len() {
@@ -72,7 +75,9 @@ fn first_bad(promises: &[u16], t: u16, list: &[u16]) -> usize
 // The answer that refuses for entry `k`, at its place: 17 with the task that the entry is blamed on.
 fn refused_entry(promises: &[u16], t: u16, list: &[u16], k: usize) -> Answer
     requires { ⌜ k < 65536 ⌝ }
-    ensures { λ a. ⌜ a ≡ refusedAtWith (getD (now (promises .entry)) (getD (now (list .entry)) k 0) 0 - small .base) k (entryRefusal (small .base) (now (promises .entry)) t (now (list .entry)) k) ⌝ }
+    ensures { λ a. ⌜ a
+        ≡ refusedAtWith (getD (now (promises .entry)) (getD (now (list .entry)) k 0) 0 - small .base) k
+        (entryRefusal (small .base) (now (promises .entry)) t (now (list .entry)) k) ⌝ }
 {
     let e = entry_refusal(promises, t, list, k);
     let place = k as u16;
@@ -102,10 +107,13 @@ fn give(promises: &mut [u16], w: u16, list: &[u16])
     }
 }
 
-// The step without refusals 1 and 2, for a caller that has tested the bounds and the tables. Nothing is stored before the whole list has passed.
+// The step without refusals 1 and 2, for a caller that has tested the bounds and the tables. Nothing is stored before
+// the whole list has passed.
 pub fn raw_async(tasks: &mut [u16], promises: &mut [u16], t: u16, c: u16, list: &[u16]) -> Answer
     requires { ⌜ sizesFit small (tablesOf (now tasks) (now promises)) ≡ true ⌝ }
-    ensures { λ r. ⌜ TakesQuietly small (step-async t c (now (list .entry))) (tablesOf (now (tasks .entry)) (now (promises .entry))) r (tablesOf (now (tasks .exit)) (now (promises .exit))) ⌝ }
+    ensures { λ r. ⌜ TakesQuietly small (step-async t c (now (list .entry)))
+        (tablesOf (now (tasks .entry)) (now (promises .entry)))
+        r (tablesOf (now (tasks .exit)) (now (promises .exit))) ⌝ }
 {
     let r = refusal(tasks, promises, t, c, list);
     if r != 0 {

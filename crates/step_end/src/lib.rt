@@ -1,4 +1,5 @@
-// The step end: the acting task ends, the promises that it owns are blamed on it, and every task that waits on one of these becomes ready.
+// The step end: the acting task ends, the promises that it owns are blamed on it, and every task that waits on one of
+// these becomes ready.
 ghost use mathlib.Core.Path.{_≡_};
 ghost use mathlib.Core.Bool.{true};
 ghost use Prim.Native.Nat.{_+_, _≤_};
@@ -29,10 +30,13 @@ fn awaits_word(promises: &[u16], v: u16, w: u16) -> bool
     at(promises, p as usize) == v
 }
 
-// Writes the tasks that wait on a promise whose word is `v` to `out` from index `from` on, rising. Returns the index after the last.
+// Writes the tasks that wait on a promise whose word is `v` to `out` from index `from` on, rising. Returns the index
+// after the last.
 fn collect_waiting(tasks: &[u16], promises: &[u16], v: u16, out: &mut [u16], from: usize) -> usize
     requires { ⌜ (from + length (now tasks) ≤ length (now out)) × (length (now tasks) ≤ 65536) ⌝ }
-    ensures { λ r. ⌜ (r ≡ from + length (places (awaits (now (promises .entry)) v) 0 (now (tasks .entry)))) × (now (out .exit) ≡ sets (now (out .entry)) from (places (awaits (now (promises .entry)) v) 0 (now (tasks .entry)))) ⌝ }
+    ensures { λ r. ⌜ (r ≡ from + length (places (awaits (now (promises .entry)) v) 0 (now (tasks .entry))))
+        × (now (out .exit)
+        ≡ sets (now (out .entry)) from (places (awaits (now (promises .entry)) v) 0 (now (tasks .entry)))) ⌝ }
 {
     let mut i = 0;
     let mut n = from;
@@ -67,10 +71,12 @@ fn wake_waiting(tasks: &mut [u16], promises: &[u16], v: u16)
     }
 }
 
-// The step without refusals 1 and 2, for a caller that has tested the bounds and the tables. Who waits is found before the promises are blamed.
+// The step without refusals 1 and 2, for a caller that has tested the bounds and the tables. Who waits is found
+// before the promises are blamed.
 pub fn raw_end(tasks: &mut [u16], promises: &mut [u16], report: &mut [u16], t: u16) -> Answer
     requires { ⌜ inBounds small (length (now report)) (tablesOf (now tasks) (now promises)) ≡ true ⌝ }
-    ensures { λ r. ⌜ TakesRaw small (step-end t) (tablesOf (now (tasks .entry)) (now (promises .entry))) (now (report .entry)) r (tablesOf (now (tasks .exit)) (now (promises .exit))) (now (report .exit)) ⌝ }
+    ensures { λ r. ⌜ TakesRaw small (step-end t) (tablesOf (now (tasks .entry)) (now (promises .entry)))
+        (now (report .entry)) r (tablesOf (now (tasks .exit)) (now (promises .exit))) (now (report .exit)) ⌝ }
 {
     let r = actor_refusal(tasks, t);
     if r != 0 {

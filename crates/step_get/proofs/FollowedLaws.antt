@@ -1,5 +1,5 @@
--- Laws of `followed` and `got`: what each way out of a get gives, from the facts that the code has there. A trail r stands for what was found, f.
--- Assumes nothing.
+-- Laws of `followed` and `got`: what each way out of a get gives, from the facts that the code has there. A trail r
+-- stands for what was found, f. Assumes nothing.
 use Prim.Native.Nat.{ℕ, _*_, _-_, _≤_, _<_}
 use mathlib.Core.Path.{_≡_, refl, sym, ap, _∙_}
 use mathlib.Core.Logic.{_≢_}
@@ -27,16 +27,20 @@ module _ (s : Tables) (t p : ℕ) {rs : List ℕ} where
         → Gives (followed s t p f) rs (Cycle k) s rs′
     unfolding followed
     followed-back {k = k} h room w =
-        rw (← e, h) (record { answer = refl; after = refl; report = w ∙ sym (over-sets (pairs k (view s) t p) rs (omega (arith, pairs-length k (view s) t p))) })
+        let l = pairs-length k (view s) t p in
+        let written = sym (over-sets (pairs k (view s) t p) rs (omega (arith, l))) in
+        rw (← e, h) (record { answer = refl; after = refl; report = w ∙ written })
 
-    pub followed-free : {k : ℕ} {ts′ : List ℕ} → r ≡ Free k → ts′ ≡ set (s .tasks) t (waitsOn p) → Gives (followed s t p f) rs (Waits k) (withTasks s ts′) rs
+    pub followed-free : {k : ℕ} {ts′ : List ℕ} → r ≡ Free k → ts′ ≡ set (s .tasks) t (waitsOn p)
+        → Gives (followed s t p f) rs (Waits k) (withTasks s ts′) rs
     unfolding followed
     followed-free h w = rw (← e, h) (record { answer = refl; after = ap (withTasks s) w; report = sym (over-none rs) })
 
     pub followed-astray : {ts′ : List ℕ} → r ≡ Astray → ts′ ≡ set (s .tasks) t (waitsOn p)
         → Gives (followed s t p f) rs (Waits (length (s .tasks))) (withTasks s ts′) rs
     unfolding followed
-    followed-astray h w = rw (← e, h) (record { answer = refl; after = ap (withTasks s) w; report = sym (over-none rs) })
+    followed-astray h w =
+        rw (← e, h) (record { answer = refl; after = ap (withTasks s) w; report = sym (over-none rs) })
 
   -- w is the promise's word, B where the blamed words begin
   module _ (B w : ℕ) where
@@ -46,7 +50,8 @@ module _ (s : Tables) (t p : ℕ) {rs : List ℕ} where
 
     pub got-blamed : w ≢ setWord → B ≤ w → Gives (got B s t p w) rs (Blamed (w - B)) s rs
     unfolding got
-    got-blamed n h = rw (ne-eqb w setWord n, le-leb B w h) (record { answer = refl; after = refl; report = sym (over-none rs) })
+    got-blamed n h =
+        rw (ne-eqb w setWord n, le-leb B w h) (record { answer = refl; after = refl; report = sym (over-none rs) })
 
     pub got-followed : {a : Answer} {s′ : Tables} {rs′ : List ℕ} → w ≢ setWord → w < B
         → Gives (followed s t p (walkFrom s t (w - firstOwned))) rs a s′ rs′ → Gives (got B s t p w) rs a s′ rs′

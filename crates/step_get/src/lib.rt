@@ -1,4 +1,5 @@
-// The step get: the value or the blame of a closed promise; otherwise owners are followed, and the task waits, or the ring that it would close is reported.
+// The step get: the value or the blame of a closed promise; otherwise owners are followed, and the task waits, or the
+// ring that it would close is reported.
 use rules::Answer;
 use step_guards::actor_refusal;
 use step_guards::earlier;
@@ -38,8 +39,10 @@ fn wait_on(tasks: &mut [u16], t: u16, p: u16)
 
 // Follows owners from `p`, which is not closed.
 fn get_owned(tasks: &mut [u16], promises: &[u16], report: &mut [u16], t: u16, p: u16) -> Answer
-    requires { ⌜ (length (now tasks) ≤ small .mostTasks) × (2 * length (now tasks) ≤ length (now report)) × (p < small .mostPromises) ⌝ }
-    ensures { λ r. ⌜ Gives (askedOf (tablesOf (now (tasks .entry)) (now (promises .entry))) t p) (now (report .entry)) r (tablesOf (now (tasks .exit)) (now (promises .entry))) (now (report .exit)) ⌝ }
+    requires { ⌜ (length (now tasks) ≤ small .mostTasks) × (2 * length (now tasks) ≤ length (now report))
+        × (p < small .mostPromises) ⌝ }
+    ensures { λ r. ⌜ Gives (askedOf (tablesOf (now (tasks .entry)) (now (promises .entry))) t p)
+        (now (report .entry)) r (tablesOf (now (tasks .exit)) (now (promises .entry))) (now (report .exit)) ⌝ }
 {
     let from = number_at(promises, PromiseWord::FIRST_OWNED, p);
     let trail = follow(tasks, promises, t as usize, from as usize);
@@ -64,8 +67,10 @@ fn get_owned(tasks: &mut [u16], promises: &[u16], report: &mut [u16], t: u16, p:
 
 // A promise that was made: a closed one answers at once.
 fn get_made(tasks: &mut [u16], promises: &[u16], report: &mut [u16], t: u16, p: u16) -> Answer
-    requires { ⌜ (length (now tasks) ≤ small .mostTasks) × (2 * length (now tasks) ≤ length (now report)) × (p < small .mostPromises) ⌝ }
-    ensures { λ r. ⌜ Gives (effect small (tablesOf (now (tasks .entry)) (now (promises .entry))) (step-get t p)) (now (report .entry)) r (tablesOf (now (tasks .exit)) (now (promises .entry))) (now (report .exit)) ⌝ }
+    requires { ⌜ (length (now tasks) ≤ small .mostTasks) × (2 * length (now tasks) ≤ length (now report))
+        × (p < small .mostPromises) ⌝ }
+    ensures { λ r. ⌜ Gives (effect small (tablesOf (now (tasks .entry)) (now (promises .entry))) (step-get t p))
+        (now (report .entry)) r (tablesOf (now (tasks .exit)) (now (promises .entry))) (now (report .exit)) ⌝ }
 {
     let w = at(promises, p as usize);
     if w == PromiseWord::SET {
@@ -80,7 +85,8 @@ fn get_made(tasks: &mut [u16], promises: &[u16], report: &mut [u16], t: u16, p: 
 // The step without refusals 1 and 2, for a caller that has tested the bounds and the tables.
 pub fn raw_get(tasks: &mut [u16], promises: &[u16], report: &mut [u16], t: u16, p: u16) -> Answer
     requires { ⌜ inBounds small (length (now report)) (tablesOf (now tasks) (now promises)) ≡ true ⌝ }
-    ensures { λ r. ⌜ TakesRaw small (step-get t p) (tablesOf (now (tasks .entry)) (now (promises .entry))) (now (report .entry)) r (tablesOf (now (tasks .exit)) (now (promises .entry))) (now (report .exit)) ⌝ }
+    ensures { λ r. ⌜ TakesRaw small (step-get t p) (tablesOf (now (tasks .entry)) (now (promises .entry)))
+        (now (report .entry)) r (tablesOf (now (tasks .exit)) (now (promises .entry))) (now (report .exit)) ⌝ }
 {
     let n = refusal(tasks, promises, t, p);
     if n != 0 {

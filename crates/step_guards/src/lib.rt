@@ -1,5 +1,5 @@
-// The refusals that look at one number of a step: each function returns the first that applies, and 0 where none does. They ask
-// nothing of their caller.
+// The refusals that look at one number of a step: each function returns the first that applies, and 0 where none
+// does. They ask nothing of their caller.
 ghost use mathlib.Core.Path.{_≡_};
 ghost use Rattle.words.specs.Words.{small};
 ghost use Rattle.rules.specs.Refusals.{earlier as earlierOf, first, actorRows, childRows, newRows, getRows, ownRows};

@@ -1,4 +1,5 @@
--- The kinds of steps, and what each takes. Paper: 01, "Lines", "`new t p`, `set t p`, `get t p`, `async t c p..`, `end t`".
+-- The kinds of steps, and what each takes. Paper: 01, "Lines", "`new t p`, `set t p`, `get t p`, `async t c p..`,
+-- `end t`".
 --
 --   shapeOf k      one number, two, or two and a list
 --   takesList h    whether a list belongs to it

@@ -25,7 +25,8 @@ fn refusal(tasks: &[u16], promises: &[u16], t: u16, p: u16) -> u16
 // The step without refusals 1 and 2, for a caller that has tested the bounds and the tables.
 pub fn raw_new(tasks: &[u16], promises: &mut [u16], t: u16, p: u16) -> Answer
     requires { ⌜ sizesFit small (tablesOf (now tasks) (now promises)) ≡ true ⌝ }
-    ensures { λ r. ⌜ TakesQuietly small (step-new t p) (tablesOf (now (tasks .entry)) (now (promises .entry))) r (tablesOf (now (tasks .entry)) (now (promises .exit))) ⌝ }
+    ensures { λ r. ⌜ TakesQuietly small (step-new t p) (tablesOf (now (tasks .entry)) (now (promises .entry)))
+        r (tablesOf (now (tasks .entry)) (now (promises .exit))) ⌝ }
 {
     let r = refusal(tasks, promises, t, p);
     if r != 0 {

@@ -49,7 +49,8 @@ pub fn raw_set(
     p: u16,
 ) -> Answer
     requires { ⌜ inBounds small (length (now report)) (tablesOf (now tasks) (now promises)) ≡ true ⌝ }
-    ensures { λ r. ⌜ TakesRaw small (step-set t p) (tablesOf (now (tasks .entry)) (now (promises .entry))) (now (report .entry)) r (tablesOf (now (tasks .exit)) (now (promises .exit))) (now (report .exit)) ⌝ }
+    ensures { λ r. ⌜ TakesRaw small (step-set t p) (tablesOf (now (tasks .entry)) (now (promises .entry)))
+        (now (report .entry)) r (tablesOf (now (tasks .exit)) (now (promises .exit))) (now (report .exit)) ⌝ }
 {
     let r = refusal(tasks, promises, t, p);
     if r != 0 {

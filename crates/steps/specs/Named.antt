@@ -1,6 +1,7 @@
 -- The step that a kind and its numbers name.
 --
---   stepBy k t p l    the step of the kind k with the numbers t and p and the list l; what the kind does not take is ignored
+--   stepBy k t p l    the step of the kind k with the numbers t and p and the list l; what the kind does not take is
+--                     ignored
 -- Assumes nothing.
 use Prim.Native.Nat.{ℕ}
 use mathlib.Core.List.{List}

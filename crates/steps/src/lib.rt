@@ -16,7 +16,8 @@ ghost use Rattle.rules.specs.Steps.{step-new, step-set, step-get, step-async, s
 ghost use Rattle.rules.specs.Contracts.{Takes, TakesRaw};
 ghost use Rattle.steps.specs.Named.{stepBy};
 
-// The step without refusals 1 and 2, for a caller that has tested the bounds and the tables. `p` is the promise, or the child of an async.
+// The step without refusals 1 and 2, for a caller that has tested the bounds and the tables. `p` is the promise, or
+// the child of an async.
 pub fn raw(
     tasks: &mut [u16],
     promises: &mut [u16],
@@ -27,7 +28,9 @@ pub fn raw(
     list: &[u16],
 ) -> Answer
     requires { ⌜ inBounds small (length (now report)) (tablesOf (now tasks) (now promises)) ≡ true ⌝ }
-    ensures { λ r. ⌜ TakesRaw small (stepBy kind t p (now (list .entry))) (tablesOf (now (tasks .entry)) (now (promises .entry))) (now (report .entry)) r (tablesOf (now (tasks .exit)) (now (promises .exit))) (now (report .exit)) ⌝ }
+    ensures { λ r. ⌜ TakesRaw small (stepBy kind t p (now (list .entry)))
+        (tablesOf (now (tasks .entry)) (now (promises .entry))) (now (report .entry))
+        r (tablesOf (now (tasks .exit)) (now (promises .exit))) (now (report .exit)) ⌝ }
 {
     match kind {
         Kind::New => raw_new(tasks, promises, t, p),
@@ -48,7 +51,9 @@ pub fn step(
     p: u16,
     list: &[u16],
 ) -> Answer
-    ensures { λ r. ⌜ Takes small (stepBy kind t p (now (list .entry))) (tablesOf (now (tasks .entry)) (now (promises .entry))) (now (report .entry)) r (tablesOf (now (tasks .exit)) (now (promises .exit))) (now (report .exit)) ⌝ }
+    ensures { λ r. ⌜ Takes small (stepBy kind t p (now (list .entry)))
+        (tablesOf (now (tasks .entry)) (now (promises .entry))) (now (report .entry))
+        r (tablesOf (now (tasks .exit)) (now (promises .exit))) (now (report .exit)) ⌝ }
 {
     let d = table_refusal(tasks, promises, report.len());
     if d != 0 {
@@ -65,8 +70,8 @@ pub fn step_new(
     t: u16,
     p: u16,
 ) -> Answer
-    ensures { λ r. ⌜ Takes small (step-new t p) (tablesOf (now (tasks .entry)) (now (promises .entry))) (now (report .entry)) r
-        (tablesOf (now (tasks .exit)) (now (promises .exit))) (now (report .exit)) ⌝ }
+    ensures { λ r. ⌜ Takes small (step-new t p) (tablesOf (now (tasks .entry)) (now (promises .entry)))
+        (now (report .entry)) r (tablesOf (now (tasks .exit)) (now (promises .exit))) (now (report .exit)) ⌝ }
 {
     step(tasks, promises, report, Kind::New, t, p, &[])
 }
@@ -78,8 +83,8 @@ pub fn step_set(
     t: u16,
     p: u16,
 ) -> Answer
-    ensures { λ r. ⌜ Takes small (step-set t p) (tablesOf (now (tasks .entry)) (now (promises .entry))) (now (report .entry)) r
-        (tablesOf (now (tasks .exit)) (now (promises .exit))) (now (report .exit)) ⌝ }
+    ensures { λ r. ⌜ Takes small (step-set t p) (tablesOf (now (tasks .entry)) (now (promises .entry)))
+        (now (report .entry)) r (tablesOf (now (tasks .exit)) (now (promises .exit))) (now (report .exit)) ⌝ }
 {
     step(tasks, promises, report, Kind::Set, t, p, &[])
 }
@@ -91,8 +96,8 @@ pub fn step_get(
     t: u16,
     p: u16,
 ) -> Answer
-    ensures { λ r. ⌜ Takes small (step-get t p) (tablesOf (now (tasks .entry)) (now (promises .entry))) (now (report .entry)) r
-        (tablesOf (now (tasks .exit)) (now (promises .exit))) (now (report .exit)) ⌝ }
+    ensures { λ r. ⌜ Takes small (step-get t p) (tablesOf (now (tasks .entry)) (now (promises .entry)))
+        (now (report .entry)) r (tablesOf (now (tasks .exit)) (now (promises .exit))) (now (report .exit)) ⌝ }
 {
     step(tasks, promises, report, Kind::Get, t, p, &[])
 }
@@ -105,15 +110,16 @@ pub fn step_async(
     c: u16,
     list: &[u16],
 ) -> Answer
-    ensures { λ r. ⌜ Takes small (step-async t c (now (list .entry))) (tablesOf (now (tasks .entry)) (now (promises .entry))) (now (report .entry)) r
-        (tablesOf (now (tasks .exit)) (now (promises .exit))) (now (report .exit)) ⌝ }
+    ensures { λ r. ⌜ Takes small (step-async t c (now (list .entry)))
+        (tablesOf (now (tasks .entry)) (now (promises .entry))) (now (report .entry))
+        r (tablesOf (now (tasks .exit)) (now (promises .exit))) (now (report .exit)) ⌝ }
 {
     step(tasks, promises, report, Kind::Async, t, c, list)
 }
 
 pub fn step_end(tasks: &mut [u16], promises: &mut [u16], report: &mut [u16], t: u16) -> Answer
-    ensures { λ r. ⌜ Takes small (step-end t) (tablesOf (now (tasks .entry)) (now (promises .entry))) (now (report .entry)) r
-        (tablesOf (now (tasks .exit)) (now (promises .exit))) (now (report .exit)) ⌝ }
+    ensures { λ r. ⌜ Takes small (step-end t) (tablesOf (now (tasks .entry)) (now (promises .entry)))
+        (now (report .entry)) r (tablesOf (now (tasks .exit)) (now (promises .exit))) (now (report .exit)) ⌝ }
 {
     step(tasks, promises, report, Kind::End, t, 0, &[])
 }

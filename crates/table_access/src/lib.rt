@@ -15,8 +15,8 @@ pub fn at(table: &[u16], i: usize) -> u16
     0
 }
 
-// The number in the word at an index, where the words that hold one begin at `base`: what a task awaits, who owns a promise or is
-// blamed for it. 0 where there is none.
+// The number in the word at an index, where the words that hold one begin at `base`: what a task awaits, who owns a
+// promise or is blamed for it. 0 where there is none.
 pub fn number_at(table: &[u16], base: u16, i: u16) -> u16
     ensures { λ r. ⌜ r ≡ getD (now (table .entry)) i 0 - base ⌝ }
 {
@@ -60,7 +60,8 @@ pub fn replace_word(table: &mut [u16], v: u16, x: u16)
 // Writes the places of the word `v` to `out` from index `from` on, rising. Returns the index after the last.
 pub fn collect_word(table: &[u16], v: u16, out: &mut [u16], from: usize) -> usize
     requires { ⌜ (from + length (now table) ≤ length (now out)) × (length (now table) ≤ 65536) ⌝ }
-    ensures { λ r. ⌜ (r ≡ from + length (places (is v) 0 (now (table .entry)))) × (now (out .exit) ≡ sets (now (out .entry)) from (places (is v) 0 (now (table .entry)))) ⌝ }
+    ensures { λ r. ⌜ (r ≡ from + length (places (is v) 0 (now (table .entry))))
+        × (now (out .exit) ≡ sets (now (out .entry)) from (places (is v) 0 (now (table .entry)))) ⌝ }
 {
     let mut i = 0;
     let mut n = from;

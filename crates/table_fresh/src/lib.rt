@@ -18,9 +18,11 @@ pub fn fresh_refusal(tasks: usize, promises: usize) -> u16
     1
 }
 
-// Makes the lent tables fresh, whatever they held; refused by 1 if one is too short or too long, and then nothing is written.
+// Makes the lent tables fresh, whatever they held; refused by 1 if one is too short or too long, and then nothing is
+// written.
 pub fn fresh(tasks: &mut [u16], promises: &mut [u16]) -> u16
-    ensures { λ r. ⌜ Freshens small (tablesOf (now (tasks .entry)) (now (promises .entry))) r (tablesOf (now (tasks .exit)) (now (promises .exit))) ⌝ }
+    ensures { λ r. ⌜ Freshens small (tablesOf (now (tasks .entry)) (now (promises .entry)))
+        r (tablesOf (now (tasks .exit)) (now (promises .exit))) ⌝ }
 {
     let n = fresh_refusal(tasks.len(), promises.len());
     if n != 0 {

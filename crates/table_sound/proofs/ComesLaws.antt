@@ -1,5 +1,5 @@
--- Laws of `comes` and `allBelow` as the loops of this crate want them: what is left at each way out of a turn, and a turn that tests one more number.
--- Assumes nothing.
+-- Laws of `comes` and `allBelow` as the loops of this crate want them: what is left at each way out of a turn, and a
+-- turn that tests one more number. Assumes nothing.
 use Prim.Native.Nat.{ℕ, suc, _+_, _-_, _≤_, _<_}
 use mathlib.Core.Path.{_≡_, refl, sym, ap, _∙_}
 use mathlib.Core.Bool.{Bool, true, false, _&&_}

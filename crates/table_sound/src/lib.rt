@@ -13,7 +13,8 @@ ghost use Rattle.words.specs.Words.{small, Form, endedWord, firstOwned};
 ghost use Rattle.words.specs.Lists.{allBelow};
 ghost use Rattle.rules.specs.Tables.{tables, inBounds, live as liveWord};
 ghost use Rattle.rules.specs.Chains.{viewOf};
-ghost use Rattle.rules.specs.Sound.{hop as hopOf, hopOwner, comes as comesTo, taskPasses, promisePasses, promiseWordPasses, soundTest};
+ghost use Rattle.rules.specs.Sound.{hop as hopOf, hopOwner, comes as comesTo};
+ghost use Rattle.rules.specs.Sound.{taskPasses, promisePasses, promiseWordPasses, soundTest};
 ghost use Rattle.rules.specs.Refusals.{first, tableRows};
 ghost use Rattle.table_sound.specs.Hops.{hopRead};
 
@@ -47,7 +48,8 @@ fn hop_owner(count: usize, w: u16) -> Next
 
 // From task `v` to the owner of what it awaits.
 pub fn hop(tasks: &[u16], promises: &[u16], v: usize) -> Next
-    ensures { λ r. ⌜ hopRead r ≡ hopOf (length (now (tasks .entry))) (viewOf (now (tasks .entry)) (now (promises .entry))) v ⌝ }
+    ensures { λ r. ⌜ hopRead r
+        ≡ hopOf (length (now (tasks .entry))) (viewOf (now (tasks .entry)) (now (promises .entry))) v ⌝ }
 {
     let w = at(tasks, v);
     if w == TaskWord::READY {
@@ -62,7 +64,8 @@ pub fn hop(tasks: &[u16], promises: &[u16], v: usize) -> Next
 
 // Whether following owners from task `v` comes to a ready task.
 pub fn comes(tasks: &[u16], promises: &[u16], v: usize) -> bool
-    ensures { λ r. ⌜ r ≡ comesTo (length (now (tasks .entry))) (length (now (tasks .entry))) (viewOf (now (tasks .entry)) (now (promises .entry))) v ⌝ }
+    ensures { λ r. ⌜ r ≡ comesTo (length (now (tasks .entry))) (length (now (tasks .entry)))
+        (viewOf (now (tasks .entry)) (now (promises .entry))) v ⌝ }
 {
     let mut u = v;
     let mut left = tasks.len();
@@ -108,7 +111,8 @@ fn task_passes(tasks: &[u16], promises: &[u16], v: usize) -> bool
 }
 
 fn tasks_pass(tasks: &[u16], promises: &[u16]) -> bool
-    ensures { λ r. ⌜ r ≡ allBelow (length (now (tasks .entry))) (taskPasses (tables (now (tasks .entry)) (now (promises .entry)))) ⌝ }
+    ensures { λ r. ⌜ r ≡ allBelow (length (now (tasks .entry)))
+        (taskPasses (tables (now (tasks .entry)) (now (promises .entry)))) ⌝ }
 {
     let mut good = true;
     let mut v = 0;
@@ -130,7 +134,8 @@ fn live(w: u16) -> bool
 
 // Whether a promise's word names an owner, and a live one.
 fn owner_passes(tasks: &[u16], w: u16) -> bool
-    ensures { λ r. ⌜ r ≡ (leb firstOwned w && ltb (w - firstOwned) (length (now (tasks .entry))) && liveWord (getD (now (tasks .entry)) (w - firstOwned) 0)) ⌝ }
+    ensures { λ r. ⌜ r ≡ (leb firstOwned w && ltb (w - firstOwned) (length (now (tasks .entry)))
+        && liveWord (getD (now (tasks .entry)) (w - firstOwned) 0)) ⌝ }
 {
     if w < PromiseWord::FIRST_OWNED {
         return false;
@@ -142,7 +147,8 @@ fn owner_passes(tasks: &[u16], w: u16) -> bool
 
 // Whether a promise's word blames a task, and an ended one.
 fn blame_passes(tasks: &[u16], w: u16) -> bool
-    ensures { λ r. ⌜ r ≡ (leb (small .base) w && ltb (w - small .base) (length (now (tasks .entry))) && eqb (getD (now (tasks .entry)) (w - small .base) 0) endedWord) ⌝ }
+    ensures { λ r. ⌜ r ≡ (leb (small .base) w && ltb (w - small .base) (length (now (tasks .entry)))
+        && eqb (getD (now (tasks .entry)) (w - small .base) 0) endedWord) ⌝ }
 {
     if w < PromiseWord::FIRST_BLAMED {
         return false;
@@ -172,7 +178,8 @@ fn promise_passes(tasks: &[u16], promises: &[u16], q: usize) -> bool
 }
 
 fn promises_pass(tasks: &[u16], promises: &[u16]) -> bool
-    ensures { λ r. ⌜ r ≡ allBelow (length (now (promises .entry))) (promisePasses (small .base) (tables (now (tasks .entry)) (now (promises .entry)))) ⌝ }
+    ensures { λ r. ⌜ r ≡ allBelow (length (now (promises .entry)))
+        (promisePasses (small .base) (tables (now (tasks .entry)) (now (promises .entry)))) ⌝ }
 {
     let mut good = true;
     let mut q = 0;

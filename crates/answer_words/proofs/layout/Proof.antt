@@ -1,3 +1,4 @@
+-- `answer_words::layout` meets its contract: each arm is the line of `laid` for its answer. Assumes nothing.
 use Rattle.rules.specs.Answers.{laid}
 use borrow.Author.Needs.{needs}
 use Rattle.answer_words.proofs.layout.Statement.{statement}

@@ -1,3 +1,4 @@
+-- `answer_words::tell` meets its contract: the four stores are those of the four words. Assumes nothing.
 use mathlib.Core.Path.{refl}
 use Rattle.answer_words.specs.AnswerWords.{answerWords}
 use borrow.Author.Needs.{needs}
@@ -24,7 +25,13 @@ same-length c = search needs
 
 returns : tie.Need-returns
 unfolding answerWords
-returns c = rw (c .before .before .put4 .ensures, c .before .before .before .before .before .before .put3 .ensures, c .before .before .before .before .before .before .before .before .before .before .put2 .ensures, c .before .before .before .before .before .before .before .before .before .before .before .before .before .before .put .ensures, c .before .before .before .before .before .before .before .before .before .before .before .before .before .before .before .before .layout .ensures) (refl, refl)
+returns c =
+    let fourth = c .before .before in
+    let third = fourth .before .before .before .before in
+    let second = third .before .before .before .before in
+    let first = second .before .before .before .before in
+    let l = first .before .before .layout .ensures in
+    rw (fourth .put4 .ensures, third .put3 .ensures, second .put2 .ensures, first .put .ensures, l) (refl, refl)
 
 pub tell-spec : {M : Type 1} → statement M
 tell-spec =

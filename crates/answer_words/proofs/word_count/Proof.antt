@@ -1,3 +1,4 @@
+-- `answer_words::word_count` meets its contract: it adds what the layout has. Assumes nothing.
 use borrow.Author.Needs.{needs}
 use Rattle.answer_words.proofs.word_count.Statement.{statement}
 use Rattle.answer_words.proofs.word_count.Tie as tie

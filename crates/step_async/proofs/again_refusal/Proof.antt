@@ -1,5 +1,5 @@
--- `step_async::again_refusal` meets its contract: up to each turn no earlier entry is the same; one that is the same decides the
--- row. Assumes nothing.
+-- `step_async::again_refusal` meets its contract: up to each turn no earlier entry is the same; one that is the same
+-- decides the row. Assumes nothing.
 use Rattle.rules.proofs.PlaceLaws.{differs-hit, differs-miss}
 use Prim.Native.Nat.{_-_, _≤_}
 use mathlib.Core.Path.{_≡_, sym, _∙_}
@@ -28,8 +28,9 @@ at-requires c κs = search (needs, tests)
 returns : tie.Need-returns Inv-loop μ-loop
 unfolding first
 returns c =
-    let a = c .before .before .before .before .before .args in
-    let l = c .before .before .before .loop in
+    let at-loop = c .before .before .before in
+    let a = at-loop .before .before .args in
+    let l = at-loop .loop in
     let h = differs-hit (a .list .now) (a .q) (l .i) (sym (c .before .at .ensures) ∙ c .if1 .taken) in
     rw (allBelow-fails (differs (a .list .now) (a .q)) (l .i) (a .k) (c .before .before .loop-test .taken) h)
 
@@ -41,8 +42,9 @@ loop-less c = search (needs, tests)
 
 loop-again : tie.Need-loop-again Inv-loop μ-loop
 loop-again c =
-    let a = c .before .before .before .before .before .args in
-    let l = c .before .before .before .loop in
+    let at-loop = c .before .before .before in
+    let a = at-loop .before .before .args in
+    let l = at-loop .loop in
     let h = differs-miss (a .list .now) (a .q) (l .i) (λ e. c .if1 .left (c .before .at .ensures ∙ e)) in
     (omega arith, allBelow-more (differs (a .list .now) (a .q)) (l .i) (l .inv .1) h)
 

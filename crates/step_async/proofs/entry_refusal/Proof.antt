@@ -1,4 +1,5 @@
--- `step_async::entry_refusal` meets its contract: 13 stands after the rows of the promise that the entry names. Assumes nothing.
+-- `step_async::entry_refusal` meets its contract: 13 stands after the rows of the promise that the entry names.
+-- Assumes nothing.
 use Rattle.words.specs.Words.{small}
 use Rattle.rules.specs.Refusals.{entryRefusal}
 use Rattle.rules.proofs.RefusalLaws.{ownRows-numbered}
@@ -22,9 +23,11 @@ earlier-requires c κs = search needs
 returns : tie.Need-returns
 unfolding entryRefusal
 returns c =
-    let a = c .before .before .before .before .before .before .args in
-    rw (← c .before .before .before .at .ensures)
-    (rows-joined _ (ownRows-numbered (small .base) (a .promises .now) (a .t) (c .before .before .before .at .result)) (c .before .before .own-refusal .ensures) (c .before .again-refusal .ensures) (c .earlier .ensures))
+    let read = c .before .before .before in
+    let a = read .before .before .before .args in
+    rw (← read .at .ensures)
+    (rows-joined _ (ownRows-numbered (small .base) (a .promises .now) (a .t) (read .at .result))
+    (c .before .before .own-refusal .ensures) (c .before .again-refusal .ensures) (c .earlier .ensures))
 
 pub entry-refusal-spec : {M : Type 1} → statement M
 entry-refusal-spec =

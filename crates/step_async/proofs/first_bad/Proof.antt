@@ -1,4 +1,5 @@
--- `step_async::first_bad` meets its contract: up to each turn the first bad place of the list is that of its rest. Assumes nothing.
+-- `step_async::first_bad` meets its contract: up to each turn the first bad place of the list is that of its rest.
+-- Assumes nothing.
 use Prim.Native.Nat.{_-_, _≤_}
 use mathlib.Core.Path.{_≡_}
 use native.Mathlib.Nat.{sub-zero}
@@ -14,7 +15,10 @@ use Rattle.step_async.proofs.first_bad.Statement.{statement}
 use Rattle.step_async.proofs.first_bad.Tie as tie
 
 abbrev Inv-loop : tie.InvT-loop
-Inv-loop promises t list i₀ i = (i ≤ length list) × (firstBad (entryRefusal (small .base) promises t list) (length list) 0 ≡ firstBad (entryRefusal (small .base) promises t list) (length list - i) i)
+Inv-loop promises t list i₀ i =
+    (i ≤ length list)
+    × (firstBad (entryRefusal (small .base) promises t list) (length list) 0
+    ≡ firstBad (entryRefusal (small .base) promises t list) (length list - i) i)
 
 abbrev μ-loop : tie.MeasureT-loop
 μ-loop promises t list i₀ i = length list - i
@@ -26,7 +30,10 @@ entry-refusal-requires : tie.Need-entry-refusal-requires Inv-loop μ-loop
 entry-refusal-requires c κs = search (needs, tests)
 
 returns : tie.Need-returns Inv-loop μ-loop
-returns c = rw (c .before .before .before .loop .inv .1, firstBad-step, c .before .before .loop-test .taken, ← c .before .entry-refusal .ensures, ne-eqb _ _ (c .if1 .taken))
+returns c =
+    let turn = c .before .before in
+    let e = c .before .entry-refusal .ensures in
+    rw (turn .before .loop .inv .1, firstBad-step, turn .loop-test .taken, ← e, ne-eqb _ _ (c .if1 .taken))
 
 add-i : tie.Need-add-i Inv-loop μ-loop
 add-i c = search (needs, tests)
@@ -36,8 +43,10 @@ loop-less c = search (needs, tests)
 
 loop-again : tie.Need-loop-again Inv-loop μ-loop
 loop-again c =
-    let l = c .before .before .before .loop in
-    (omega arith, rw (l .inv .1, firstBad-step _ _ (l .i), c .before .before .loop-test .taken, ← c .before .entry-refusal .ensures, eq-eqb _ _ (c .if1 .left)))
+    let turn = c .before .before in
+    let l = turn .before .loop in
+    let e = c .before .entry-refusal .ensures in
+    (omega arith, rw (l .inv .1, firstBad-step _ _ (l .i), turn .loop-test .taken, ← e, eq-eqb _ _ (c .if1 .left)))
 
 returns-2 : tie.Need-returns-2 Inv-loop μ-loop
 returns-2 c = rw (c .before .loop .inv .1, firstBad-end, c .loop-test .left)

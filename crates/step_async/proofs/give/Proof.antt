@@ -1,4 +1,5 @@
--- `step_async::give` meets its contract: after each turn the rest of the list is still to be handed out. Assumes nothing.
+-- `step_async::give` meets its contract: after each turn the rest of the list is still to be handed out.
+-- Assumes nothing.
 use Prim.Native.Nat.{_-_}
 use lib.ListN.{length}
 use Rattle.step_async.proofs.GivenLaws.{HandedOut, handedOut-start, handedOut-turn, handedOut-end}
@@ -36,7 +37,9 @@ loop-less : tie.Need-loop-less Inv-loop μ-loop
 loop-less c = search (needs, tests)
 
 loop-again : tie.Need-loop-again Inv-loop μ-loop
-loop-again c = rw (c .before .before .put .ensures) (handedOut-turn (c .before .before .before .before .before .before .loop .inv) (omega arith))
+loop-again c =
+    let stored = c .before .before in
+    rw (stored .put .ensures) (handedOut-turn (stored .before .before .before .before .loop .inv) (omega arith))
 
 same-length : tie.Need-same-length Inv-loop μ-loop
 same-length c = c .before .loop .inv .same

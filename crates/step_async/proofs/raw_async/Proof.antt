@@ -1,5 +1,5 @@
--- `step_async::raw_async` meets its contract: the first bad place decides between a refusal, which leaves all as it was, and the
--- stores of the rules; it is at most the number of promises, so it fits. Assumes nothing.
+-- `step_async::raw_async` meets its contract: the first bad place decides between a refusal, which leaves all as it
+-- was, and the stores of the rules; it is at most the number of promises, so it fits. Assumes nothing.
 use mathlib.Core.Path.{refl, sym, ap₂, _∙_}
 use lib.ListN.{length}
 use borrow.Author.Tests.{lt-ltb, le-ltb}
@@ -23,6 +23,9 @@ start c = c .before .before .before .before .before .before
 
 abbrev passed : tie.After-first-bad → tie.Else1
 passed c = c .before .before
+
+abbrev good : tie.After-put → tie.Else2
+good c = c .before .before
 
 abbrev lent : tie.Start → Tables
 lent c = tables (c .args .tasks .now) (c .args .promises .now)
@@ -50,7 +53,8 @@ refused-entry-requires c κs =
     let looked = c .before .before in
     let at = start (passed looked .before) in
     let a = at .args in
-    omega (arith, fitting at .promises, looked .first-bad .ensures, firstBad-place (small .base) (a .promises .now) (a .t) (a .list .now) (length (a .list .now)))
+    let most = firstBad-place (small .base) (a .promises .now) (a .t) (a .list .now) (length (a .list .now)) in
+    omega (arith, fitting at .promises, looked .first-bad .ensures, most)
 
 same-length-3 : tie.Need-same-length-3
 same-length-3 c = search needs
@@ -73,10 +77,11 @@ put-requires c κs = search needs
 
 owned-by-requires : tie.Need-owned-by-requires
 owned-by-requires c κs =
-    let p = passed (c .before .before .before .before .before) in
+    let p = passed (good (c .before .before) .before) in
     let at = start (p .before) in
     let a = at .args in
-    let f = actorRows-none (a .tasks .now) (a .t) (childRows (a .tasks .now) (a .c)) (sym (p .before .refusal .ensures) ∙ p .if1 .left) in
+    let none = sym (p .before .refusal .ensures) ∙ p .if1 .left in
+    let f = actorRows-none (a .tasks .now) (a .t) (childRows (a .tasks .now) (a .c)) none in
     omega (arith, fitting at .tasks, childRows-none (a .tasks .now) (a .c) (f .1) .0)
 
 give-requires : tie.Need-give-requires
@@ -94,12 +99,15 @@ returns-3 c rs =
     let gave = c .before .before in
     let word = gave .before .before in
     let stored = word .before .before .before in
-    let good = stored .before .before in
-    let looked = good .before in
+    let looked = good stored .before in
     let p = passed looked in
     gives-passed _ _ (p .before .refusal .ensures) (p .if1 .left)
-    (rw (← looked .first-bad .ensures, le-ltb _ _ (good .if2 .left), ← word .owned-by .ensures)
-    (record { answer = refl; after = ap₂ (withWords (lent (start (p .before)))) (stored .put .ensures) (gave .give .ensures); report = sym (over-none rs) }))
+    (rw (← looked .first-bad .ensures, le-ltb _ _ (good stored .if2 .left), ← word .owned-by .ensures)
+    (record {
+      answer = refl;
+      after = ap₂ (withWords (lent (start (p .before)))) (stored .put .ensures) (gave .give .ensures);
+      report = sym (over-none rs);
+    }))
 
 pub raw-async-spec : {M : Type 1} → statement M
 raw-async-spec =

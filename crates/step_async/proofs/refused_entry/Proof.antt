@@ -1,4 +1,5 @@
--- `step_async::refused_entry` meets its contract: the test for 17 decides, and the task is the one read off the entry's word. Assumes nothing.
+-- `step_async::refused_entry` meets its contract: the test for 17 decides, and the task is the one read off the
+-- entry's word. Assumes nothing.
 use mathlib.Core.Path.{sym, _∙_}
 use Rattle.rules.proofs.AnswerLaws.{at-with-told, at-with-plain}
 use borrow.Author.Needs.{needs}
@@ -21,7 +22,8 @@ returns : tie.Need-returns
 returns c =
     let read = c .before in
     let tested = read .before in
-    rw (c .number-at .ensures, read .at .ensures) (sym (at-with-told _ _ _ (sym (tested .before .entry-refusal .ensures) ∙ tested .if1 .taken)))
+    let told = sym (tested .before .entry-refusal .ensures) ∙ tested .if1 .taken in
+    rw (c .number-at .ensures, read .at .ensures) (sym (at-with-told _ _ _ told))
 
 returns-2 : tie.Need-returns-2
 returns-2 c = rw (← c .before .entry-refusal .ensures) (sym (at-with-plain _ _ _ (c .if1 .left)))

@@ -1,5 +1,5 @@
--- `step_end::awaits_word` meets its contract: a word below the first wait waits on nothing, and any other names the promise
--- that is read. Assumes nothing.
+-- `step_end::awaits_word` meets its contract: a word below the first wait waits on nothing, and any other names the
+-- promise that is read. Assumes nothing.
 use borrow.Author.Tests.{le-leb}
 use Rattle.rules.specs.Steps.{awaits}
 use Rattle.words.proofs.Tests.{tests}

@@ -1,5 +1,5 @@
--- `step_end::collect_waiting` meets its contract: after each turn the places found so far are written, and the rest is still to be
--- read. Assumes nothing.
+-- `step_end::collect_waiting` meets its contract: after each turn the places found so far are written, and the rest
+-- is still to be read. Assumes nothing.
 use Prim.Native.Nat.{_-_}
 use mathlib.Core.Path.{sym, _∙_}
 use mathlib.Core.Logic.{⊎-elim}

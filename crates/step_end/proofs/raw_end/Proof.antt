@@ -1,5 +1,5 @@
--- `step_end::raw_end` meets its contract: who waits is found while the promises are still owned; the two parts of the report stand
--- after each other, and the bounds give them room. Assumes nothing.
+-- `step_end::raw_end` meets its contract: who waits is found while the promises are still owned; the two parts of the
+-- report stand after each other, and the bounds give them room. Assumes nothing.
 use Prim.Native.Nat.{_+_, _≤_, _<_}
 use mathlib.Core.List.{[]}
 use mathlib.Core.Path.{sym, ap₂, _∙_}
@@ -29,8 +29,20 @@ asked c = c .before .before
 abbrev word : tie.After-collect-word → tie.After-owned-by
 word c = c .before .before .before
 
-abbrev first : tie.After-collect-waiting → tie.After-collect-word
-first c = c .before .before .before .before .before .before
+abbrev first : tie.After-collect-waiting-arg3 → tie.After-collect-word
+first c = c .before .before .before .before .before
+
+abbrev second : tie.After-wake-waiting → tie.After-collect-waiting
+second c = c .before .before .before .before .before
+
+abbrev woke : tie.After-put → tie.After-wake-waiting
+woke c = c .before .before .before .before
+
+abbrev ended : tie.After-blamed-on → tie.After-put
+ended c = c .before .before .before
+
+abbrev blame : tie.After-slice-known8 → tie.After-blamed-on
+blame c = c .before .before .before .before
 
 abbrev lent : tie.Start → Tables
 lent c = tables (c .args .tasks .now) (c .args .promises .now)
@@ -42,7 +54,8 @@ bounds c = inBounds-true small _ _ (c .pre)
 below : (c : tie.Else1) → start (c .before) .args .t < small .mostTasks
 below c =
     let at = start (c .before) in
-    let f = actorRows-none (at .args .tasks .now) (at .args .t) [] (sym (c .before .actor-refusal .ensures) ∙ c .if1 .left) in
+    let none = sym (c .before .actor-refusal .ensures) ∙ c .if1 .left in
+    let f = actorRows-none (at .args .tasks .now) (at .args .t) [] none in
     omega (arith, bounds at .tasks, f .0 .below)
 
 actor-refusal-requires : tie.Need-actor-refusal-requires
@@ -64,7 +77,7 @@ collect-word-requires c κs =
 
 collect-waiting-requires : tie.Need-collect-waiting-requires
 collect-waiting-requires c κs =
-    let found = c .before .before .before .before .before in
+    let found = first c in
     let at = start (asked (word found)) in
     let b = bounds at in
     let w = found .collect-word in
@@ -81,26 +94,25 @@ put-requires : tie.Need-put-requires
 put-requires c κs = search needs
 
 blamed-on-requires : tie.Need-blamed-on-requires
-blamed-on-requires c κs =
-    let second = c .before .before .before .before .before .before .before .before .before .before .before in
-    omega (arith, below (word (first second) .before))
+blamed-on-requires c κs = omega (arith, below (word (first (second (woke (c .before .before)) .before)) .before))
 
 replace-word-requires : tie.Need-replace-word-requires
 replace-word-requires c κs = search needs
 
 cast-promise-count : tie.Need-cast-promise-count
 cast-promise-count c =
-    let found = first (c .before .before .before .before .before .before .before .before .before .before .before .before .before .before .before .before) in
+    let found = first (second (woke (ended (blame c))) .before) in
     let at = start (asked (word found)) in
-    omega (arith, bounds at .promises, found .collect-word .ensures .0, places-length (is (word found .owned-by .result)) 0 (at .args .promises .now))
+    let l = places-length (is (word found .owned-by .result)) 0 (at .args .promises .now) in
+    omega (arith, bounds at .promises, found .collect-word .ensures .0, l)
 
 cast-task-count : tie.Need-cast-task-count
 cast-task-count c =
-    let second = c .before .before .before .before .before .before .before .before .before .before .before .before .before .before .before .before in
-    let w = word (first second) in
+    let waiting = second (woke (ended (blame c))) in
+    let w = word (first (waiting .before)) in
     let a = start (asked w) .args in
     let l = places-length (awaits (a .promises .now) (w .owned-by .result)) 0 (a .tasks .now) in
-    omega (arith, bounds (start (asked w)) .tasks, second .collect-waiting .ensures .0, l)
+    omega (arith, bounds (start (asked w)) .tasks, waiting .collect-waiting .ensures .0, l)
 
 same-length-2 : tie.Need-same-length-2
 same-length-2 c = search needs
@@ -114,16 +126,14 @@ same-length-4 c = search needs
 returns-2 : tie.Need-returns-2
 returns-2 c =
     let blamed = c .before .before in
-    let blame = blamed .before .before in
-    let ended = blame .before .before .before in
-    let woke = ended .before .before .before .before in
-    let second = woke .before .before .before .before .before in
-    let found = first second in
+    let end = ended (blame c) in
+    let waiting = second (woke end) in
+    let found = first (waiting .before) in
     let at = start (asked (word found)) in
     let a = at .args in
     let v = word found .owned-by .result in
     let w = found .collect-word .ensures in
-    let x = second .collect-waiting .ensures in
+    let x = waiting .collect-waiting .ensures in
     let omitted = places (is v) 0 (a .promises .now) in
     let woken = places (awaits (a .promises .now) v) 0 (a .tasks .now) in
     let l = places-length (is v) 0 (a .promises .now) in
@@ -134,8 +144,8 @@ returns-2 c =
     (record {
       answer = ap₂ Ended (omega (arith, w .0)) (omega (arith, w .0, x .0));
       after =
-          ap₂ (withWords (lent at)) (rw (← woke .wake-waiting .ensures) (ended .put .ensures))
-          (rw (← blame .blamed-on .ensures) (blamed .replace-word .ensures));
+          ap₂ (withWords (lent at)) (rw (← woke end .wake-waiting .ensures) (end .put .ensures))
+          (rw (← blame c .blamed-on .ensures) (blamed .replace-word .ensures));
       report = over-append omitted woken (a .report .now) room (w .0) (w .1) (x .1);
     }))
 

@@ -42,7 +42,9 @@ loop-less : tie.Need-loop-less Inv-loop μ-loop
 loop-less c = search (needs, tests)
 
 loop-again : tie.Need-loop-again Inv-loop μ-loop
-loop-again c = rewritten-turn _ (c .before .before .before .loop .inv) (omega (arith, c .before .before .before .loop .inv .same)) (c .woken-word .ensures)
+loop-again c =
+    let l = c .before .before .before .loop in
+    rewritten-turn _ (l .inv) (omega (arith, l .inv .same)) (c .woken-word .ensures)
 
 same-length : tie.Need-same-length Inv-loop μ-loop
 same-length c = c .before .loop .inv .same

@@ -10,10 +10,18 @@ awaits-word-requires : tie.Need-awaits-word-requires
 awaits-word-requires c κs = search needs
 
 returns : tie.Need-returns
-returns c = let a = c .before .before .before .args in sym (changed-hit (awaits (a .promises .now) (a .v)) _ (a .w) (sym (c .before .awaits-word .ensures) ∙ c .if1 .taken))
+returns c =
+    let asked = c .before in
+    let a = asked .before .before .args in
+    let h = sym (asked .awaits-word .ensures) ∙ c .if1 .taken in
+    sym (changed-hit (awaits (a .promises .now) (a .v)) _ (a .w) h)
 
 returns-2 : tie.Need-returns-2
-returns-2 c = let a = c .before .before .before .args in sym (changed-miss (awaits (a .promises .now) (a .v)) _ (a .w) (sym (c .before .awaits-word .ensures) ∙ c .if1 .left))
+returns-2 c =
+    let asked = c .before in
+    let a = asked .before .before .args in
+    let h = sym (asked .awaits-word .ensures) ∙ c .if1 .left in
+    sym (changed-miss (awaits (a .promises .now) (a .v)) _ (a .w) h)
 
 pub woken-word-spec : {M : Type 1} → statement M
 woken-word-spec = tie.close (tie.spec awaits-word-requires returns returns-2)

@@ -27,7 +27,8 @@ returns-3 c =
     let done = c .before .before .before .before in
     let owned = done .before .before .before in
     let read = owned .before .before .at .ensures in
-    rw (← read) (got-followed _ _ _ _ _ (owned .before .if1 .left) (owned .if2 .left) (rw read (done .get-owned .ensures)))
+    let unset = owned .before .if1 .left in
+    rw (← read) (got-followed _ _ _ _ _ unset (owned .if2 .left) (rw read (done .get-owned .ensures)))
 
 pub get-made-spec : {M : Type 1} → statement M
 get-made-spec =

@@ -1,4 +1,5 @@
--- `step_get::get_owned` meets its contract: each arm is a law of `followed`, and a count is at most the number of tasks, so it fits. Assumes nothing.
+-- `step_get::get_owned` meets its contract: each arm is a law of `followed`, and a count is at most the number of
+-- tasks, so it fits. Assumes nothing.
 use Prim.Native.Nat.{_≤_}
 use native.Mathlib.Omega.{arith}
 use lib.ListN.{length}
@@ -15,6 +16,10 @@ number c = c .before .before
 abbrev start : tie.After-follow → tie.Start
 start c = number c .before .before .before .before
 
+-- a ring has at most as many owners as there are tasks
+most : (c : tie.After-trail) → c .trail .given .0 .0 ≤ length (start (c .before .before) .args .tasks .now)
+most c = trail-most _ _ _ _ _ (c .before .before .follow .ensures) (c .trail .given .1)
+
 number-at-requires : tie.Need-number-at-requires
 number-at-requires c κs = search needs
 
@@ -28,11 +33,7 @@ enum-known-trail : tie.Need-enum-known-trail
 enum-known-trail c = search needs
 
 cast-n : tie.Need-cast-n
-cast-n c =
-    let trail = c .before in
-    let walked = trail .before .before in
-    let most : trail .trail .given .0 .0 ≤ length (start walked .args .tasks .now) = trail-most _ _ _ _ _ (walked .follow .ensures) (trail .trail .given .1) in
-    omega (arith, most)
+cast-n c = omega (arith, most (c .before))
 
 write-pairs-requires : tie.Need-write-pairs-requires
 write-pairs-requires c κs = search needs
@@ -48,9 +49,9 @@ returns c =
     let wrote = c .before .before in
     let trail = wrote .before .before .before .before in
     let walked = trail .before .before in
-    let most : trail .trail .given .0 .0 ≤ length (start walked .args .tasks .now) = trail-most _ _ _ _ _ (walked .follow .ensures) (trail .trail .given .1) in
     rw (← number walked .number-at .ensures)
-    (followed-back _ _ _ (walked .follow .ensures) (trail .trail .given .1) (omega (arith, most)) (wrote .write-pairs .ensures))
+    (followed-back _ _ _ (walked .follow .ensures) (trail .trail .given .1) (omega (arith, most trail))
+    (wrote .write-pairs .ensures))
 
 enum-known-trail-2 : tie.Need-enum-known-trail-2
 enum-known-trail-2 c = search needs
@@ -59,8 +60,10 @@ cast-n-2 : tie.Need-cast-n-2
 cast-n-2 c =
     let trail = c .before in
     let walked = trail .before .before in
-    let most : trail .trail2 .given .0 .0 ≤ length (start walked .args .tasks .now) = trail-most _ _ _ _ _ (walked .follow .ensures) (trail .trail2 .given .1) in
-    omega (arith, most)
+    let tasks = start walked .args .tasks .now in
+    let h = walked .follow .ensures in
+    let few : trail .trail2 .given .0 .0 ≤ length tasks = trail-most _ _ _ _ _ h (trail .trail2 .given .1) in
+    omega (arith, few)
 
 wait-on-requires : tie.Need-wait-on-requires
 wait-on-requires c κs = omega arith

@@ -31,8 +31,9 @@ get-made-requires c κs =
     let asked = passed c .before in
     let a = start asked .args in
     let b = inBounds-true small _ _ (start asked .pre) in
-    let none = actorRows-none (a .tasks .now) (a .t) (getRows (a .promises .now) (a .p)) (sym (asked .refusal .ensures) ∙ passed c .if1 .left) in
-    (b .tasks, omega (arith, b .room), omega (arith, b .promises, getRows-none (a .promises .now) (a .p) (none .1) .0))
+    let none = sym (asked .refusal .ensures) ∙ passed c .if1 .left in
+    let f = actorRows-none (a .tasks .now) (a .t) (getRows (a .promises .now) (a .p)) none in
+    (b .tasks, omega (arith, b .room), omega (arith, b .promises, getRows-none (a .promises .now) (a .p) (f .1) .0))
 
 same-length-2 : tie.Need-same-length-2
 same-length-2 c = search needs

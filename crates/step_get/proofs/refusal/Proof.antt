@@ -16,8 +16,10 @@ earlier-requires c κs = search needs
 
 returns : tie.Need-returns
 returns c =
-    let a = c .before .before .before .before .before .args in
-    rows-joined _ (actorRows-numbered (a .tasks .now) (a .t)) (c .before .before .actor-refusal .ensures) (c .before .get-refusal .ensures) (c .earlier .ensures)
+    let asked = c .before .before in
+    let a = asked .before .before .before .args in
+    rows-joined _ (actorRows-numbered (a .tasks .now) (a .t)) (asked .actor-refusal .ensures)
+    (c .before .get-refusal .ensures) (c .earlier .ensures)
 
 pub refusal-spec : {M : Type 1} → statement M
 refusal-spec =

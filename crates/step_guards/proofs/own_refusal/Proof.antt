@@ -1,5 +1,5 @@
--- `step_guards::own_refusal` meets its contract: at each return the tests that led there decide each row; the owner is read off by
--- a subtraction, which says whether the word is that of t. Assumes nothing.
+-- `step_guards::own_refusal` meets its contract: at each return the tests that led there decide each row; the owner
+-- is read off by a subtraction, which says whether the word is that of t. Assumes nothing.
 use mathlib.Core.Path.{_≡_}
 use mathlib.Core.Logic.{_≢_}
 use lib.ListN.{getD}
@@ -10,6 +10,10 @@ use Rattle.words.proofs.Tests.{tests}
 use borrow.Author.Needs.{needs}
 use Rattle.step_guards.proofs.own_refusal.Statement.{statement}
 use Rattle.step_guards.proofs.own_refusal.Tie as tie
+
+-- the start, from where the promise was made and is not closed
+abbrev start : tie.Else4 → tie.Start
+start c = c .before .before .before .before .before
 
 returns : tie.Need-returns
 unfolding first
@@ -36,21 +40,21 @@ returns-4 c = search (needs, tests)
 returns-5 : tie.Need-returns-5
 unfolding first
 returns-5 c =
-    let a = c .before .before .before .before .before .before .args in
+    let a = start (c .before) .args in
     let h : getD (a .promises .now) (a .p) 0 ≢ ownedBy (a .t) = λ e. omega arith in
     search (needs, tests)
 
 returns-6 : tie.Need-returns-6
 unfolding first
 returns-6 c =
-    let a = c .before .before .before .before .before .before .before .args in
+    let a = start (c .before .before) .args in
     let h : getD (a .promises .now) (a .p) 0 ≡ ownedBy (a .t) = omega arith in
     search (needs, tests)
 
 returns-7 : tie.Need-returns-7
 unfolding first
 returns-7 c =
-    let a = c .before .before .before .before .before .before .before .args in
+    let a = start (c .before .before) .args in
     let h : getD (a .promises .now) (a .p) 0 ≢ ownedBy (a .t) = λ e. omega arith in
     search (needs, tests)
 

@@ -1,4 +1,5 @@
--- `step_new::raw_new` meets its contract: a refusal leaves all as it was, and otherwise the one store is that of the rules. Assumes nothing.
+-- `step_new::raw_new` meets its contract: a refusal leaves all as it was, and otherwise the one store is that of the
+-- rules. Assumes nothing.
 use mathlib.Core.Path.{refl, sym, ap, _∙_}
 use Rattle.words.specs.Words.{small}
 use Rattle.words.proofs.ListLaws.{over-none}
@@ -33,7 +34,8 @@ owned-by-requires c κs =
     let asked = c .before in
     let a = start asked .args in
     let b = sizesFit-true small (lent (start asked)) (start asked .pre) in
-    let f = actorRows-none (a .tasks .now) (a .t) (newRows (a .promises .now) (a .p)) (sym (asked .refusal .ensures) ∙ c .if1 .left) in
+    let none = sym (asked .refusal .ensures) ∙ c .if1 .left in
+    let f = actorRows-none (a .tasks .now) (a .t) (newRows (a .promises .now) (a .p)) none in
     omega (arith, b .tasks, f .0 .below)
 
 put-requires : tie.Need-put-requires
@@ -49,7 +51,20 @@ returns-2 c rs =
     let passed = word .before in
     let asked = passed .before in
     gives-passed _ _ (asked .refusal .ensures) (passed .if1 .left)
-    (record { answer = refl; after = ap (withPromises (lent (start asked))) (rw (← word .owned-by .ensures) (stored .put .ensures)); report = sym (over-none rs) })
+    (record {
+      answer = refl;
+      after = ap (withPromises (lent (start asked))) (rw (← word .owned-by .ensures) (stored .put .ensures));
+      report = sym (over-none rs);
+    })
 
 pub raw-new-spec : {M : Type 1} → statement M
-raw-new-spec = tie.close (tie.spec refusal-requires same-length returns owned-by-requires put-requires same-length-2 returns-2)
+raw-new-spec =
+    tie.close
+    (tie.spec
+    refusal-requires
+    same-length
+    returns
+    owned-by-requires
+    put-requires
+    same-length-2
+    returns-2)

@@ -1,5 +1,5 @@
--- `step_set::raw_set` meets its contract: the bounds give the promise a word and the report its room, and each loop and store is
--- the part of the outcome that has its name. Assumes nothing.
+-- `step_set::raw_set` meets its contract: the bounds give the promise a word and the report its room, and each loop
+-- and store is the part of the outcome that has its name. Assumes nothing.
 use mathlib.Core.List.{[]}
 use Prim.Native.Nat.{_≤_}
 use mathlib.Core.Path.{sym, ap, ap₂, _∙_}
@@ -27,6 +27,12 @@ asked c = c .before .before
 
 abbrev word : tie.After-collect-word → tie.After-waits-on
 word c = c .before .before .before
+
+abbrev found : tie.After-replace-word → tie.After-collect-word
+found c = c .before .before .before .before
+
+abbrev woke : tie.After-put → tie.After-replace-word
+woke c = c .before .before .before .before
 
 abbrev lent : tie.Start → Tables
 lent c = tables (c .args .tasks .now) (c .args .promises .now)
@@ -72,9 +78,10 @@ put-requires c κs = search needs
 
 cast-woken : tie.Need-cast-woken
 cast-woken c =
-    let found = c .before .before .before .before .before .before .before .before .before .before in
-    let at = start (asked (word found)) in
-    omega (arith, bounds at .tasks, found .collect-word .ensures .0, places-length (is (word found .waits-on .result)) 0 (at .args .tasks .now))
+    let f = found (woke (c .before .before)) in
+    let at = start (asked (word f)) in
+    let l = places-length (is (word f .waits-on .result)) 0 (at .args .tasks .now) in
+    omega (arith, bounds at .tasks, f .collect-word .ensures .0, l)
 
 same-length-3 : tie.Need-same-length-3
 same-length-3 c = search needs
@@ -88,9 +95,8 @@ same-length-5 c = search needs
 returns-2 : tie.Need-returns-2
 returns-2 c =
     let stored = c .before .before in
-    let woke = stored .before .before .before .before in
-    let found = woke .before .before .before .before in
-    let w = word found in
+    let f = found (woke stored) in
+    let w = word f in
     let at = start (asked w) in
     let a = at .args in
     let woken = places (is (w .waits-on .result)) 0 (a .tasks .now) in
@@ -99,9 +105,9 @@ returns-2 c =
     gives-passed _ _ (asked w .refusal .ensures) (w .before .if1 .left)
     (rw (← w .waits-on .ensures)
     (record {
-      answer = ap Set (omega (arith, found .collect-word .ensures .0));
-      after = ap₂ (withWords (lent at)) (woke .replace-word .ensures) (stored .put .ensures);
-      report = found .collect-word .ensures .1 ∙ sym (over-sets woken (a .report .now) room);
+      answer = ap Set (omega (arith, f .collect-word .ensures .0));
+      after = ap₂ (withWords (lent at)) (woke stored .replace-word .ensures) (stored .put .ensures);
+      report = f .collect-word .ensures .1 ∙ sym (over-sets woken (a .report .now) room);
     }))
 
 pub raw-set-spec : {M : Type 1} → statement M

@@ -1,4 +1,5 @@
--- `step_set::refused` meets its contract: the test for 17 decides, and the task is the one read off the word. Assumes nothing.
+-- `step_set::refused` meets its contract: the test for 17 decides, and the task is the one read off the word.
+-- Assumes nothing.
 use Rattle.rules.specs.Answers.{refusedWith}
 use Rattle.words.proofs.Tests.{tests}
 use borrow.Author.Needs.{needs}

@@ -6,11 +6,15 @@ use borrow.Author.Needs.{needs}
 use Rattle.steps.proofs.raw.Statement.{statement}
 use Rattle.steps.proofs.raw.Tie as tie
 
+-- the start, from where the kind is asked for
+abbrev start : tie.After-shared-slice-known → tie.Start
+start c = c .before .before .before .before
+
 enum-told : tie.Need-enum-told
 enum-told c = search needs
 
 raw-new-requires : tie.Need-raw-new-requires
-raw-new-requires c κs = inBounds-sizes small _ _ (c .before .before .before .before .before .before .before .before .pre)
+raw-new-requires c κs = inBounds-sizes small _ _ (start (c .before .before .before .before) .pre)
 
 enum-told-2 : tie.Need-enum-told-2
 enum-told-2 c = search needs
@@ -28,7 +32,7 @@ enum-told-4 : tie.Need-enum-told-4
 enum-told-4 c = search needs
 
 raw-async-requires : tie.Need-raw-async-requires
-raw-async-requires c κs = inBounds-sizes small _ _ (c .before .before .before .before .before .before .before .before .pre)
+raw-async-requires c κs = inBounds-sizes small _ _ (start (c .before .before .before .before) .pre)
 
 enum-told-5 : tie.Need-enum-told-5
 enum-told-5 c = search needs
@@ -44,7 +48,9 @@ same-length-2 c = search needs
 
 returns : tie.Need-returns
 unfolding stepBy
-returns c = rw (c .before .before .before .before .before .enum-told .given .1) (c .before .before .raw-new .ensures _)
+returns c =
+    let done = c .before .before in
+    rw (done .before .before .before .enum-told .given .1) (done .raw-new .ensures _)
 
 same-length-3 : tie.Need-same-length-3
 same-length-3 c = search needs
@@ -57,7 +63,9 @@ same-length-5 c = search needs
 
 returns-2 : tie.Need-returns-2
 unfolding stepBy
-returns-2 c = rw (c .before .before .before .before .before .before .before .before .before .before .enum-told2 .given .1) (c .before .before .before .before .before .before .raw-set .ensures)
+returns-2 c =
+    let done = c .before .before .before .before .before .before in
+    rw (done .before .before .before .before .enum-told2 .given .1) (done .raw-set .ensures)
 
 same-length-6 : tie.Need-same-length-6
 same-length-6 c = search needs
@@ -70,7 +78,9 @@ same-length-8 c = search needs
 
 returns-3 : tie.Need-returns-3
 unfolding stepBy
-returns-3 c = rw (c .before .before .before .before .before .before .before .before .enum-told3 .given .1) (c .before .before .before .before .raw-get .ensures)
+returns-3 c =
+    let done = c .before .before .before .before in
+    rw (done .before .before .before .before .enum-told3 .given .1) (done .raw-get .ensures)
 
 same-length-9 : tie.Need-same-length-9
 same-length-9 c = search needs
@@ -80,7 +90,9 @@ same-length-10 c = search needs
 
 returns-4 : tie.Need-returns-4
 unfolding stepBy
-returns-4 c = rw (c .before .before .before .before .before .before .before .enum-told4 .given .1) (c .before .before .before .before .raw-async .ensures _)
+returns-4 c =
+    let done = c .before .before .before .before in
+    rw (done .before .before .before .enum-told4 .given .1) (done .raw-async .ensures _)
 
 same-length-11 : tie.Need-same-length-11
 same-length-11 c = search needs
@@ -93,7 +105,9 @@ same-length-13 c = search needs
 
 returns-5 : tie.Need-returns-5
 unfolding stepBy
-returns-5 c = rw (c .before .before .before .before .before .before .before .before .before .before .enum-told5 .given .1) (c .before .before .before .before .before .before .raw-end .ensures)
+returns-5 c =
+    let done = c .before .before .before .before .before .before in
+    rw (done .before .before .before .before .enum-told5 .given .1) (done .raw-end .ensures)
 
 pub raw-spec : {M : Type 1} → statement M
 raw-spec =

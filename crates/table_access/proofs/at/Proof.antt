@@ -1,3 +1,4 @@
+-- `table_access::at` meets its contract: the word within the table, and 0 past its end. Assumes nothing.
 use mathlib.Core.Path.{sym}
 use lib.ListN.{List·getD-eq-default}
 use borrow.Author.Needs.{needs}

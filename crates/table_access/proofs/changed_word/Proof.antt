@@ -1,3 +1,4 @@
+-- `table_access::changed_word` meets its contract: the two branches are the two sides of `changed`. Assumes nothing.
 use Rattle.words.specs.Lists.{changed, is}
 use borrow.Author.Needs.{needs}
 use Rattle.words.proofs.Tests.{tests}

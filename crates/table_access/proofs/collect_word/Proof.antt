@@ -1,3 +1,5 @@
+-- `table_access::collect_word` meets its contract: after each turn the places found so far are written, and the rest is
+-- still to be read. Assumes nothing.
 use Prim.Native.Nat.{_-_}
 use mathlib.Core.Logic.{⊎-elim}
 use lib.ListN.{length}

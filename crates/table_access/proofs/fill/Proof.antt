@@ -1,3 +1,4 @@
+-- `table_access::fill` meets its contract: after i turns the first i words are rewritten. Assumes nothing.
 use Prim.Native.Nat.{_-_}
 use mathlib.Core.Path.{refl, _∙_}
 use lib.ListN.{length}
@@ -36,7 +37,9 @@ same-length : tie.Need-same-length Inv-loop μ-loop
 same-length c = c .before .loop .inv .same
 
 returns : tie.Need-returns Inv-loop μ-loop
-returns c = rewritten-end (filled _) (c .before .loop .inv) (omega (arith, c .before .loop .inv .same)) ∙ map-filled _ (c .before .before .args .table .now)
+returns c =
+    let l = c .before .loop in
+    rewritten-end (filled _) (l .inv) (omega (arith, l .inv .same)) ∙ map-filled _ (c .before .before .args .table .now)
 
 pub fill-spec : {M : Type 1} → statement M
 fill-spec =

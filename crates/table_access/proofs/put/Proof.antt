@@ -1,3 +1,4 @@
+-- `table_access::put` meets its contract: a store within the table, and none past its end. Assumes nothing.
 use mathlib.Core.Path.{sym}
 use lib.Seq.{set-out}
 use borrow.Author.Needs.{needs}

@@ -1,3 +1,4 @@
+-- `table_access::replace_word` meets its contract: after i turns the first i words are rewritten. Assumes nothing.
 use Prim.Native.Nat.{_-_}
 use lib.ListN.{length}
 use Rattle.words.specs.Lists.{changed, is}
@@ -39,7 +40,9 @@ loop-less : tie.Need-loop-less Inv-loop μ-loop
 loop-less c = search (needs, tests)
 
 loop-again : tie.Need-loop-again Inv-loop μ-loop
-loop-again c = rewritten-turn _ (c .before .before .before .loop .inv) (omega (arith, c .before .before .before .loop .inv .same)) (c .changed-word .ensures)
+loop-again c =
+    let l = c .before .before .before .loop in
+    rewritten-turn _ (l .inv) (omega (arith, l .inv .same)) (c .changed-word .ensures)
 
 same-length : tie.Need-same-length Inv-loop μ-loop
 same-length c = c .before .loop .inv .same

@@ -1,3 +1,5 @@
+-- `table_fresh::fresh` meets its contract: the sizes decide, and each fill and store is a part of the fresh tables.
+-- Assumes nothing.
 use mathlib.Core.Path.{sym, ap₂, _∙_}
 use borrow.Author.Tests.{eq-eqb, ne-eqb}
 use Rattle.rules.specs.Tables.{tables}
@@ -11,7 +13,9 @@ fresh-refusal-requires c κs = search needs
 
 returns : tie.Need-returns
 unfolding freshened
-returns c = record { number = c .before .fresh-refusal .ensures; after = rw (← c .before .fresh-refusal .ensures, ne-eqb _ 0 (c .if1 .taken)) }
+returns c =
+    let r = c .before .fresh-refusal .ensures in
+    record { number = r; after = rw (← r, ne-eqb _ 0 (c .if1 .taken)) }
 
 unused-requires : tie.Need-unused-requires
 unused-requires c κs = search needs
@@ -45,11 +49,12 @@ returns-2 c =
     let emptied = readied .before .before .before .before .before in
     let passed = emptied .before .before .before in
     let r = passed .before .fresh-refusal .ensures in
+    let unused = emptied .before .unused .ensures in
     record {
       number = sym (passed .if1 .left) ∙ r;
       after =
           rw (← r, eq-eqb _ 0 (passed .if1 .left))
-          (ap₂ tables (readied .put .ensures ∙ rw (emptied .fill .ensures, emptied .before .unused .ensures, readied .before .ready .ensures))
+          (ap₂ tables (readied .put .ensures ∙ rw (emptied .fill .ensures, unused, readied .before .ready .ensures))
           (unmade .fill2 .ensures ∙ rw (unmade .before .unmade .ensures)));
     }
 

@@ -1,3 +1,4 @@
+-- `table_fresh::fresh_refusal` meets its contract: the test of the sizes decides. Assumes nothing.
 use Rattle.rules.specs.Refusals.{first, freshRefusal}
 use borrow.Author.Needs.{needs}
 use Rattle.table_fresh.proofs.fresh_refusal.Statement.{statement}

@@ -1,4 +1,5 @@
--- `table_sound::blame_passes` meets its contract: the test of the word, then the two others as they were computed. Assumes nothing.
+-- `table_sound::blame_passes` meets its contract: the test of the word, then the two others as they were computed.
+-- Assumes nothing.
 use borrow.Author.Tests.{le-leb}
 use borrow.Author.Needs.{needs}
 use Rattle.words.proofs.Tests.{tests}

@@ -1,4 +1,5 @@
--- `table_sound::comes` meets its contract. The loop keeps: what is left to follow, with the fuel that is left, answers as the whole does. Assumes nothing.
+-- `table_sound::comes` meets its contract. The loop keeps: what is left to follow, with the fuel that is left,
+-- answers as the whole does. Assumes nothing.
 use mathlib.Core.Path.{_≡_, sym, ap, _∙_}
 use lib.ListN.{length}
 use borrow.Author.Needs.{needs}
@@ -11,7 +12,8 @@ use Rattle.table_sound.proofs.comes.Statement.{statement}
 use Rattle.table_sound.proofs.comes.Tie as tie
 
 abbrev Inv-loop : tie.InvT-loop
-Inv-loop tasks promises v u₀ left₀ u left = comes left (length tasks) (viewOf tasks promises) u ≡ comes (length tasks) (length tasks) (viewOf tasks promises) v
+Inv-loop tasks promises v u₀ left₀ u left =
+    comes left (length tasks) (viewOf tasks promises) u ≡ comes (length tasks) (length tasks) (viewOf tasks promises) v
 
 abbrev μ-loop : tie.MeasureT-loop
 μ-loop tasks promises v u₀ left₀ u left = left
@@ -26,13 +28,19 @@ enum-told : tie.Need-enum-told Inv-loop μ-loop
 enum-told c = search (needs, tests)
 
 returns : tie.Need-returns Inv-loop μ-loop
-returns c = sym (comes-ready _ _ _ _ (c .before .before .before .loop-test .taken) (sym (c .before .before .hop .ensures) ∙ ap hopRead (c .enum-told .given .1))) ∙ c .before .before .before .before .loop .inv
+returns c =
+    let hopped = c .before .before in
+    let h = sym (hopped .hop .ensures) ∙ ap hopRead (c .enum-told .given .1) in
+    sym (comes-ready _ _ _ _ (hopped .before .loop-test .taken) h) ∙ hopped .before .before .loop .inv
 
 enum-told-2 : tie.Need-enum-told-2 Inv-loop μ-loop
 enum-told-2 c = search (needs, tests)
 
 returns-2 : tie.Need-returns-2 Inv-loop μ-loop
-returns-2 c = sym (comes-lost _ _ _ _ (c .before .before .before .loop-test .taken) (sym (c .before .before .hop .ensures) ∙ ap hopRead (c .enum-told2 .given .1))) ∙ c .before .before .before .before .loop .inv
+returns-2 c =
+    let hopped = c .before .before in
+    let h = sym (hopped .hop .ensures) ∙ ap hopRead (c .enum-told2 .given .1) in
+    sym (comes-lost _ _ _ _ (hopped .before .loop-test .taken) h) ∙ hopped .before .before .loop .inv
 
 enum-known-h : tie.Need-enum-known-h Inv-loop μ-loop
 enum-known-h c = search (needs, tests)
@@ -44,7 +52,10 @@ loop-less : tie.Need-loop-less Inv-loop μ-loop
 loop-less c = search (needs, tests)
 
 loop-again : tie.Need-loop-again Inv-loop μ-loop
-loop-again c = sym (comes-on _ _ _ _ _ (c .before .before .before .before .loop-test .taken) (sym (c .before .before .before .hop .ensures) ∙ ap hopRead (c .before .h .given .1))) ∙ c .before .before .before .before .before .loop .inv
+loop-again c =
+    let hopped = c .before .before .before in
+    let h = sym (hopped .hop .ensures) ∙ ap hopRead (c .before .h .given .1) in
+    sym (comes-on _ _ _ _ _ (hopped .before .loop-test .taken) h) ∙ hopped .before .before .loop .inv
 
 returns-3 : tie.Need-returns-3 Inv-loop μ-loop
 returns-3 c = sym (comes-zero _ _ _ _ (c .loop-test .left)) ∙ c .before .loop .inv

@@ -28,7 +28,12 @@ hop-owner-requires c κs = search needs
 
 returns-3 : tie.Need-returns-3
 unfolding hop
-returns-3 c = rw (← c .before .before .before .before .before .at .ensures, ne-eqb _ _ (c .before .before .before .before .if1 .left), le-leb _ _ (c .before .before .before .if2 .left), ← c .before .before .wide .ensures, ← c .before .at2 .ensures) (c .hop-owner .ensures)
+returns-3 c =
+    let widened = c .before .before in
+    let waits = widened .before in
+    let unready = waits .before in
+    rw (← unready .before .at .ensures, ne-eqb _ _ (unready .if1 .left), le-leb _ _ (waits .if2 .left))
+    (rw (← widened .wide .ensures, ← c .before .at2 .ensures) (c .hop-owner .ensures))
 
 pub hop-spec : {M : Type 1} → statement M
 hop-spec =

@@ -1,4 +1,5 @@
--- `table_sound::in_bounds` meets its contract: the sizes are within their bounds, and then the report is long enough or not. Assumes nothing.
+-- `table_sound::in_bounds` meets its contract: the sizes are within their bounds, and then the report is long enough
+-- or not. Assumes nothing.
 use mathlib.Core.Path.{sym, _∙_}
 use Rattle.rules.specs.Tables.{sizesFit, inBounds}
 use borrow.Author.Needs.{needs}

@@ -1,4 +1,5 @@
--- `table_sound::promise_word_passes` meets its contract: the four parts of `promiseWordPasses`, each as its test or its callee says. Assumes nothing.
+-- `table_sound::promise_word_passes` meets its contract: the four parts of `promiseWordPasses`, each as its test or
+-- its callee says. Assumes nothing.
 use borrow.Author.Tests.{ne-eqb}
 use borrow.Author.Needs.{needs}
 use Rattle.words.proofs.Tests.{tests}
@@ -18,7 +19,11 @@ blame-passes-requires : tie.Need-blame-passes-requires
 blame-passes-requires c κs = search needs
 
 returns-3 : tie.Need-returns-3
-returns-3 c = rw (ne-eqb _ _ (c .before .before .before .if1 .left), ne-eqb _ _ (c .before .before .if2 .left), ← c .before .owner-passes .ensures, ← c .blame-passes .ensures)
+returns-3 c =
+    let owned = c .before in
+    let made = ne-eqb _ _ (owned .before .before .if1 .left) in
+    let unset = ne-eqb _ _ (owned .before .if2 .left) in
+    rw (made, unset, ← owned .owner-passes .ensures, ← c .blame-passes .ensures)
 
 pub promise-word-passes-spec : {M : Type 1} → statement M
 promise-word-passes-spec =

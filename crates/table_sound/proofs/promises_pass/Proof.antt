@@ -1,4 +1,5 @@
--- `table_sound::promises_pass` meets its contract. The loop keeps: `good` says whether every promise so far passes. Assumes nothing.
+-- `table_sound::promises_pass` meets its contract. The loop keeps: `good` says whether every promise so far passes.
+-- Assumes nothing.
 use Prim.Native.Nat.{_-_}
 use native.Mathlib.Omega.{arith}
 use lib.ListN.{length}
@@ -12,7 +13,8 @@ use Rattle.table_sound.proofs.promises_pass.Statement.{statement}
 use Rattle.table_sound.proofs.promises_pass.Tie as tie
 
 abbrev Inv-loop : tie.InvT-loop
-Inv-loop tasks promises good₀ q₀ good q = Tested (promisePasses (small .base) (tables tasks promises)) (length promises) good q
+Inv-loop tasks promises good₀ q₀ good q =
+    Tested (promisePasses (small .base) (tables tasks promises)) (length promises) good q
 
 abbrev μ-loop : tie.MeasureT-loop
 μ-loop tasks promises good₀ q₀ good q = length promises - q

@@ -12,11 +12,15 @@ is-sound-requires c κs = search needs
 
 returns : tie.Need-returns
 unfolding first
-returns c = rw (← c .before .before .before .in-bounds .ensures, c .before .before .if1 .taken, ← c .before .is-sound .ensures, c .if2 .taken)
+returns c =
+    let sized = c .before .before in
+    rw (← sized .before .in-bounds .ensures, sized .if1 .taken, ← c .before .is-sound .ensures, c .if2 .taken)
 
 returns-2 : tie.Need-returns-2
 unfolding first
-returns-2 c = rw (← c .before .before .before .in-bounds .ensures, c .before .before .if1 .taken, ← c .before .is-sound .ensures, c .if2 .left)
+returns-2 c =
+    let sized = c .before .before in
+    rw (← sized .before .in-bounds .ensures, sized .if1 .taken, ← c .before .is-sound .ensures, c .if2 .left)
 
 returns-3 : tie.Need-returns-3
 unfolding first

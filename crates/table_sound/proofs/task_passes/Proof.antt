@@ -5,6 +5,10 @@ use Rattle.rules.specs.Sound.{taskPasses}
 use Rattle.table_sound.proofs.task_passes.Statement.{statement}
 use Rattle.table_sound.proofs.task_passes.Tie as tie
 
+-- where the word was read, from where it names a promise
+abbrev read : tie.Else4 → tie.After-at
+read c = c .before .before .before .before
+
 at-requires : tie.Need-at-requires
 at-requires c κs = search needs
 
@@ -29,14 +33,19 @@ wide-requires c κs = search needs
 
 returns-5 : tie.Need-returns-5
 unfolding taskPasses
-returns-5 c = rw (← c .before .before .before .before .before .before .at .ensures, ← c .before .wide .ensures) (search (needs, tests))
+returns-5 c =
+    let widened = c .before in
+    rw (← read (widened .before) .at .ensures, ← widened .wide .ensures) (search (needs, tests))
 
 comes-requires : tie.Need-comes-requires
 comes-requires c κs = search needs
 
 returns-6 : tie.Need-returns-6
 unfolding taskPasses
-returns-6 c = rw (← c .before .before .before .before .before .before .before .at .ensures, ← c .before .before .wide .ensures, ← c .comes .ensures) (search (needs, tests))
+returns-6 c =
+    let widened = c .before .before in
+    rw (← read (widened .before) .at .ensures, ← widened .wide .ensures, ← c .comes .ensures)
+    (search (needs, tests))
 
 pub task-passes-spec : {M : Type 1} → statement M
 task-passes-spec =

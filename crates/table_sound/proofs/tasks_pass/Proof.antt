@@ -1,4 +1,5 @@
--- `table_sound::tasks_pass` meets its contract. The loop keeps: `good` says whether every task so far passes. Assumes nothing.
+-- `table_sound::tasks_pass` meets its contract. The loop keeps: `good` says whether every task so far passes.
+-- Assumes nothing.
 use Prim.Native.Nat.{_-_}
 use native.Mathlib.Omega.{arith}
 use lib.ListN.{length}

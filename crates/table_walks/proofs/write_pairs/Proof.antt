@@ -1,4 +1,5 @@
--- `table_walks::write_pairs` meets its contract. The loop keeps: storing the pairs that are left makes the report that storing all of them makes. Assumes nothing.
+-- `table_walks::write_pairs` meets its contract. The loop keeps: storing the pairs that are left makes the report
+-- that storing all of them makes. Assumes nothing.
 use Prim.Native.Nat.{_+_, _*_, _≤_}
 use mathlib.Core.Path.{_≡_, refl, sym, ap, _∙_}
 use native.Mathlib.Omega.{arith}
@@ -13,7 +14,9 @@ use Rattle.table_walks.proofs.write_pairs.Statement.{statement}
 use Rattle.table_walks.proofs.write_pairs.Tie as tie
 
 abbrev Inv-loop : tie.InvT-loop
-Inv-loop tasks promises report₀ k t p left₀ a₀ q₀ i₀ report left a q i = (i + 2 * left ≤ 2 * k) × (length report ≡ length report₀) × (sets report₀ 0 (pairs k (viewOf tasks promises) t p) ≡ sets report i (pairs left (viewOf tasks promises) a q))
+Inv-loop tasks promises report₀ k t p left₀ a₀ q₀ i₀ report left a q i =
+    (i + 2 * left ≤ 2 * k) × (length report ≡ length report₀)
+    × (sets report₀ 0 (pairs k (viewOf tasks promises) t p) ≡ sets report i (pairs left (viewOf tasks promises) a q))
 
 abbrev μ-loop : tie.MeasureT-loop
 μ-loop tasks promises report₀ k t p left₀ a₀ q₀ i₀ report left a q i = left
@@ -47,10 +50,16 @@ loop-less c = search (needs, tests)
 
 loop-again : tie.Need-loop-again Inv-loop μ-loop
 loop-again c =
-    let l = c .before .before .before .before .before .before .before .before .before .before .before .loop in (
+    let second = c .before .before .before .before in
+    let first = second .before .before .before .before in
+    let turn = first .before .before in
+    let l = turn .before .loop in
+    let more = turn .loop-test .taken in
+    let owner = c .before .number-at .ensures in
+    let awaited = c .number-at2 .ensures in (
       omega (arith, l .inv .0),
-      c .before .before .before .before .put2 .kept .0 ∙ c .before .before .before .before .before .before .before .before .put .kept .0 ∙ l .inv .1,
-      rw (l .inv .2, pairs-step _ _ _ _ (c .before .before .before .before .before .before .before .before .before .before .loop-test .taken), sets-pair, c .before .before .before .before .put2 .ensures, c .before .before .before .before .before .before .before .before .put .ensures, c .number-at2 .ensures, c .before .number-at .ensures),
+      second .put2 .kept .0 ∙ first .put .kept .0 ∙ l .inv .1,
+      rw (l .inv .2, pairs-step _ _ _ _ more, sets-pair, second .put2 .ensures, first .put .ensures, awaited, owner),
     )
 
 same-length : tie.Need-same-length Inv-loop μ-loop
