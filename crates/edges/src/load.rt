@@ -1,11 +1,38 @@
-// Loading. The board holds what is loaded: the task table from index 0 on, the promise table from 65 on and the report from 322 on.
+// Loading. The board holds what is loaded: the task table, the promise table and the report.
 use crate::show;
 use check::same;
 use table_access::at;
 use table_access::put;
+use words::Limit;
 ghost use Prim.Native.Nat.{_≤_};
+ghost use mathlib.Core.Path.{_≡_};
+ghost use lib.ListN.{length};
+ghost use lib.Seq.{sets};
+ghost use Rattle.edges.specs.Board.{boardTasks, boardPromises, reportFrom, wordsFrom};
+ghost use Rattle.edges.specs.Board.{sizedStage, Fits, FreshensOn};
 
-// How many words of the board are the task table, the promise table and the report, and whether the steps are those of a story.
+// The board: the most words of its parts, where they begin, and how many words it has. Each part has one word more
+// than it ever needs.
+pub struct Board {
+    pub most: usize,
+}
+
+impl Board {
+    pub const TASKS: usize = Limit::TASKS + 1;
+
+    pub const PROMISES: usize = Limit::PROMISES + 1;
+
+    pub const REPORT: usize = Board::PROMISES + 2 * Board::TASKS + 1;
+
+    pub const PROMISES_FROM: usize = Board::TASKS;
+
+    pub const REPORT_FROM: usize = Board::PROMISES_FROM + Board::PROMISES;
+
+    pub const WORDS: usize = Board::REPORT_FROM + Board::REPORT;
+}
+
+// How many words of the board are the task table, the promise table and the report, and whether the steps are those
+// of a story.
 pub struct Stage {
     pub tasks: usize,
     pub promises: usize,
@@ -15,8 +42,8 @@ pub struct Stage {
 
 // Tables of these sizes with the least report, and no story.
 pub fn sized(tasks: usize, promises: usize) -> Stage
-    requires { ⌜ (tasks ≤ 65) × (promises ≤ 257) ⌝ }
-    ensures { λ r. ⌜ (r .tasks ≤ 65) × (r .promises ≤ 257) × (r .room ≤ 388) ⌝ }
+    requires { ⌜ (tasks ≤ boardTasks) × (promises ≤ boardPromises) ⌝ }
+    ensures { λ r. ⌜ (r ≡ sizedStage tasks promises) × Fits r ⌝ }
 {
     Stage {
         tasks,
@@ -26,9 +53,10 @@ pub fn sized(tasks: usize, promises: usize) -> Stage
     }
 }
 
-// Fills `to` with the words that `from` has from index `start` on.
+// Fills `to` with the words that `from` has from index `start` on, 0 past its end.
 pub fn fill(to: &mut [u16], from: &[u16], start: usize)
-    requires { ⌜ start ≤ 322 ⌝ }
+    requires { ⌜ start ≤ reportFrom ⌝ }
+    ensures { λ _. ⌜ now (to .exit) ≡ wordsFrom (now (from .entry)) start (length (now (to .entry))) ⌝ }
 {
     let mut i = 0;
     while i < to.len() {
@@ -39,7 +67,8 @@ pub fn fill(to: &mut [u16], from: &[u16], start: usize)
 
 // Writes the words to the board from index `start` on.
 pub fn store(words: &[u16], board: &mut [u16], start: usize)
-    requires { ⌜ start ≤ 322 ⌝ }
+    requires { ⌜ start ≤ reportFrom ⌝ }
+    ensures { λ _. ⌜ now (board .exit) ≡ sets (now (board .entry)) start (now (words .entry)) ⌝ }
 {
     let mut i = 0;
     while i < words.len() {
@@ -49,21 +78,25 @@ pub fn store(words: &[u16], board: &mut [u16], start: usize)
 }
 
 // Makes the tables of the board fresh in these two, and puts them back. Returns what `fresh` answered.
-fn fresh_to(tasks: &mut [u16], promises: &mut [u16], board: &mut [u16]) -> u16 {
+fn fresh_to(tasks: &mut [u16], promises: &mut [u16], board: &mut [u16]) -> u16
+    ensures { λ r. ⌜ FreshensOn (now (board .entry)) (length (now (tasks .entry))) (length (now (promises .entry))) r
+        (now (board .exit)) ⌝ }
+{
     fill(tasks, board, 0);
-    fill(promises, board, 65);
+    fill(promises, board, Board::PROMISES_FROM);
     let answer = table_fresh::fresh(tasks, promises);
     store(tasks, board, 0);
-    store(promises, board, 65);
+    store(promises, board, Board::PROMISES_FROM);
     answer
 }
 
 // Makes the tables on the board fresh. Returns what `fresh` answered.
 pub fn freshen(board: &mut [u16], s: Stage) -> u16
-    requires { ⌜ (s .tasks ≤ 65) × (s .promises ≤ 257) × (s .room ≤ 388) ⌝ }
+    requires { ⌜ Fits s ⌝ }
+    ensures { λ r. ⌜ FreshensOn (now (board .entry)) (s .tasks) (s .promises) r (now (board .exit)) ⌝ }
 {
-    let mut tasks = [0u16; 65];
-    let mut promises = [0u16; 257];
+    let mut tasks = [0u16; Board::TASKS];
+    let mut promises = [0u16; Board::PROMISES];
     let m = s.tasks;
     let n = s.promises;
     fresh_to(&mut tasks[0..m], &mut promises[0..n], board)
@@ -71,11 +104,11 @@ pub fn freshen(board: &mut [u16], s: Stage) -> u16
 
 // A report of as many words as the value says.
 fn load_report(values: &[u16], s: Stage) -> Stage
-    requires { ⌜ (s .tasks ≤ 65) × (s .promises ≤ 257) × (s .room ≤ 388) ⌝ }
-    ensures { λ r. ⌜ (r .tasks ≤ 65) × (r .promises ≤ 257) × (r .room ≤ 388) ⌝ }
+    requires { ⌜ Fits s ⌝ }
+    ensures { λ r. ⌜ Fits r ⌝ }
 {
     let room = at(values, 0) as usize;
-    if 388 < room {
+    if Board::REPORT < room {
         show::not_understood(b"report");
         return s;
     }
@@ -89,8 +122,8 @@ fn load_report(values: &[u16], s: Stage) -> Stage
 
 // The load of a word that has its own count of numbers.
 fn load_counted(word: &[u8], values: &[u16], board: &mut [u16], s: Stage) -> Stage
-    requires { ⌜ (s .tasks ≤ 65) × (s .promises ≤ 257) × (s .room ≤ 388) ⌝ }
-    ensures { λ r. ⌜ (r .tasks ≤ 65) × (r .promises ≤ 257) × (r .room ≤ 388) ⌝ }
+    requires { ⌜ Fits s ⌝ }
+    ensures { λ r. ⌜ Fits r ⌝ }
 {
     let n = values.len();
     if (n == 1) & same(word, b"report") {
@@ -114,20 +147,20 @@ fn load_counted(word: &[u8], values: &[u16], board: &mut [u16], s: Stage) -> Sta
 
 // The load that a line without a name asks for. The report is full of 9s after it.
 pub fn load(word: &[u8], values: &[u16], board: &mut [u16], s: Stage) -> Stage
-    requires { ⌜ (s .tasks ≤ 65) × (s .promises ≤ 257) × (s .room ≤ 388) ⌝ }
-    ensures { λ r. ⌜ (r .tasks ≤ 65) × (r .promises ≤ 257) × (r .room ≤ 388) ⌝ }
+    requires { ⌜ Fits s ⌝ }
+    ensures { λ r. ⌜ Fits r ⌝ }
 {
     let n = values.len();
-    store(&[9; 388], board, 322);
-    if n <= 65 {
+    store(&[9; Board::REPORT], board, Board::REPORT_FROM);
+    if n <= Board::TASKS {
         if same(word, b"tasks") {
             store(values, board, 0);
             return sized(n, s.promises);
         }
     }
-    if n <= 257 {
+    if n <= Board::PROMISES {
         if same(word, b"promises") {
-            store(values, board, 65);
+            store(values, board, Board::PROMISES_FROM);
             return sized(s.tasks, n);
         }
     }

@@ -1,42 +1,30 @@
-// Playing a case: the steps are taken on a copy of what is on the board, and in a story what they leave goes back to it.
+// Playing a case: the steps are taken on a copy of what is on the board, and in a story what they leave goes back to
+// it.
+use crate::load::Board;
 use crate::load::Stage;
 use crate::load::fill;
 use crate::load::freshen;
 use crate::load::store;
-use crate::read::Step;
+use crate::read::Asked;
 use crate::read::list_of;
 use crate::read::step_of;
 use crate::show;
 use check::same;
-use steps::step_async;
-use steps::step_end;
-use steps::step_get;
-use steps::step_new;
-use steps::step_set;
+use step_kinds::Kind;
+use steps::step;
 use table_access::at;
 ghost use Prim.Native.Nat.{_≤_};
 ghost use mathlib.Core.Path.{_≡_};
 ghost use lib.ListN.{length};
+ghost use Rattle.edges.specs.Board.{boardWords, reportFrom, Fits};
 
 // Takes the step and prints its answer.
-fn act(tasks: &mut [u16], promises: &mut [u16], report: &mut [u16], step: Step, list: &[u16]) {
-    match step {
-        Step::New(t, p) => {
-            show::answer(step_new(tasks, promises, report, t, p));
+fn act(tasks: &mut [u16], promises: &mut [u16], report: &mut [u16], asked: Asked, list: &[u16]) {
+    match asked {
+        Asked::Step(kind, t, p) => {
+            show::answer(step(tasks, promises, report, kind, t, p, list));
         }
-        Step::Set(t, p) => {
-            show::answer(step_set(tasks, promises, report, t, p));
-        }
-        Step::Get(t, p) => {
-            show::answer(step_get(tasks, promises, report, t, p));
-        }
-        Step::Async(t, c) => {
-            show::answer(step_async(tasks, promises, report, t, c, list));
-        }
-        Step::End(t) => {
-            show::answer(step_end(tasks, promises, report, t));
-        }
-        Step::Unknown => {
+        Asked::Unknown => {
             show::text(b" not understood");
         }
     }
@@ -44,7 +32,7 @@ fn act(tasks: &mut [u16], promises: &mut [u16], report: &mut [u16], step: Step, 
 
 // Whether the words are those that the board has from index `start` on.
 fn same_words(words: &[u16], board: &[u16], start: usize) -> bool
-    requires { ⌜ start ≤ 322 ⌝ }
+    requires { ⌜ start ≤ reportFrom ⌝ }
 {
     let mut i = 0;
     while i < words.len() {
@@ -58,7 +46,7 @@ fn same_words(words: &[u16], board: &[u16], start: usize) -> bool
 
 // Prints the words under a name where they are no longer those of the board. Returns whether they are.
 fn show_changed(name: &[u8], words: &[u16], board: &[u16], start: usize) -> bool
-    requires { ⌜ start ≤ 322 ⌝ }
+    requires { ⌜ start ≤ reportFrom ⌝ }
 {
     if same_words(words, board, start) {
         return true;
@@ -70,8 +58,8 @@ fn show_changed(name: &[u8], words: &[u16], board: &[u16], start: usize) -> bool
 // Prints each table and the report that is no longer as on the board, whole; `kept` where none is.
 fn show_changes(tasks: &[u16], promises: &[u16], report: &[u16], board: &[u16]) {
     let a = show_changed(b", tasks", tasks, board, 0);
-    let b = show_changed(b", promises", promises, board, 65);
-    let c = show_changed(b", report", report, board, 322);
+    let b = show_changed(b", promises", promises, board, Board::PROMISES_FROM);
+    let c = show_changed(b", report", report, board, Board::REPORT_FROM);
     show::end_line(a & b & c);
 }
 
@@ -79,8 +67,8 @@ fn show_changes(tasks: &[u16], promises: &[u16], report: &[u16], board: &[u16]) 
 fn keep(story: bool, tasks: &[u16], promises: &[u16], report: &[u16], board: &mut [u16]) {
     if story {
         store(tasks, board, 0);
-        store(promises, board, 65);
-        store(report, board, 322);
+        store(promises, board, Board::PROMISES_FROM);
+        store(report, board, Board::REPORT_FROM);
     }
 }
 
@@ -89,26 +77,26 @@ fn act_told(
     tasks: &mut [u16],
     promises: &mut [u16],
     report: &mut [u16],
-    step: Step,
+    asked: Asked,
     list: &[u16],
     board: &mut [u16],
     story: bool,
 ) {
     fill(tasks, board, 0);
-    fill(promises, board, 65);
-    fill(report, board, 322);
-    act(tasks, promises, report, step, list);
+    fill(promises, board, Board::PROMISES_FROM);
+    fill(report, board, Board::REPORT_FROM);
+    act(tasks, promises, report, asked, list);
     show_changes(tasks, promises, report, board);
     keep(story, tasks, promises, report, board);
 }
 
 // Takes the step and prints the rest of its line.
-fn step_told(board: &mut [u16], s: Stage, step: Step, list: &[u16])
-    requires { ⌜ (s .tasks ≤ 65) × (s .promises ≤ 257) × (s .room ≤ 388) ⌝ }
+fn step_told(board: &mut [u16], s: Stage, asked: Asked, list: &[u16])
+    requires { ⌜ Fits s ⌝ }
 {
-    let mut tasks = [0u16; 65];
-    let mut promises = [0u16; 257];
-    let mut report = [0u16; 388];
+    let mut tasks = [0u16; Board::TASKS];
+    let mut promises = [0u16; Board::PROMISES];
+    let mut report = [0u16; Board::REPORT];
     let m = s.tasks;
     let n = s.promises;
     let k = s.room;
@@ -116,7 +104,7 @@ fn step_told(board: &mut [u16], s: Stage, step: Step, list: &[u16])
         &mut tasks[0..m],
         &mut promises[0..n],
         &mut report[0..k],
-        step,
+        asked,
         list,
         board,
         s.story,
@@ -125,23 +113,23 @@ fn step_told(board: &mut [u16], s: Stage, step: Step, list: &[u16])
 
 // Prints the words of both tables on the board, under a name of the first.
 fn show_tables(name: &[u8], board: &[u16], s: Stage)
-    requires { ⌜ length (now board) ≡ 710 ⌝ }
-    requires { ⌜ (s .tasks ≤ 65) × (s .promises ≤ 257) × (s .room ≤ 388) ⌝ }
+    requires { ⌜ length (now board) ≡ boardWords ⌝ }
+    requires { ⌜ Fits s ⌝ }
 {
     let m = s.tasks;
-    let e = 65 + s.promises;
+    let e = Board::PROMISES_FROM + s.promises;
     show::words(name, &board[0..m]);
-    show::words(b", promises", &board[65..e]);
+    show::words(b", promises", &board[Board::PROMISES_FROM..e]);
 }
 
 // Prints whether the tables on the board are sound.
 fn show_soundness(board: &[u16], s: Stage)
-    requires { ⌜ length (now board) ≡ 710 ⌝ }
-    requires { ⌜ (s .tasks ≤ 65) × (s .promises ≤ 257) × (s .room ≤ 388) ⌝ }
+    requires { ⌜ length (now board) ≡ boardWords ⌝ }
+    requires { ⌜ Fits s ⌝ }
 {
     let m = s.tasks;
-    let e = 65 + s.promises;
-    if table_sound::is_sound(&board[0..m], &board[65..e]) {
+    let e = Board::PROMISES_FROM + s.promises;
+    if table_sound::is_sound(&board[0..m], &board[Board::PROMISES_FROM..e]) {
         show::text(b" sound,");
     } else {
         show::text(b" damaged,");
@@ -150,21 +138,20 @@ fn show_soundness(board: &[u16], s: Stage)
 
 // Makes the tables on the board fresh, and prints what became of them and what `new 0 0` did.
 fn fresh_told(board: &mut [u16], s: Stage)
-    requires { ⌜ length (now board) ≡ 710 ⌝ }
-    requires { ⌜ (s .tasks ≤ 65) × (s .promises ≤ 257) × (s .room ≤ 388) ⌝ }
+    requires { ⌜ length (now board) ≡ boardWords ⌝ }
+    requires { ⌜ Fits s ⌝ }
 {
     show::text(b" fresh");
     show::number(freshen(board, s));
     show_tables(b", tasks", board, s);
     show::text(b", then");
-    step_told(board, s, Step::New(0, 0), &[]);
+    step_told(board, s, Asked::Step(Kind::New, 0, 0), &[]);
 }
 
-// One line: the name, and what the case did. Returns the stage for the next line.
-pub fn play(name: &[u8], word: &[u8], values: &[u16], board: &mut [u16], s: Stage) -> Stage
-    requires { ⌜ length (now board) ≡ 710 ⌝ }
-    requires { ⌜ (s .tasks ≤ 65) × (s .promises ≤ 257) × (s .room ≤ 388) ⌝ }
-    ensures { λ r. ⌜ (r .tasks ≤ 65) × (r .promises ≤ 257) × (r .room ≤ 388) ⌝ }
+// One line: the name, and what the case did.
+pub fn play(name: &[u8], word: &[u8], values: &[u16], board: &mut [u16], s: Stage)
+    requires { ⌜ length (now board) ≡ boardWords ⌝ }
+    requires { ⌜ Fits s ⌝ }
 {
     show::text(name);
     show::text(b":");
@@ -172,17 +159,16 @@ pub fn play(name: &[u8], word: &[u8], values: &[u16], board: &mut [u16], s: Stag
     if (n == 0) & same(word, b"tables") {
         show_tables(b" tasks", board, s);
         show::text(b"\n");
-        return s;
+        return;
     }
     if (n == 0) & same(word, b"fresh") {
         fresh_told(board, s);
-        return s;
+        return;
     }
     if (n == 1) & same(word, b"sound") {
         show_soundness(board, s);
-        step_told(board, s, Step::New(at(values, 0), 1), &[]);
-        return s;
+        step_told(board, s, Asked::Step(Kind::New, at(values, 0), 1), &[]);
+        return;
     }
     step_told(board, s, step_of(word, values), list_of(values));
-    s
 }

@@ -1,19 +1,23 @@
 // Reading a line: where its parts end, its numbers, and the case that it asks for.
-use check::same;
+use step_kinds::Kind;
+use step_kinds::Shape;
+use step_kinds::shape_of;
 use table_access::at;
 use text_fields::run_end;
+use text_keywords::Keyword;
+use text_keywords::keyword_of;
 use text_numbers::Num;
 use text_numbers::number;
 ghost use Prim.Native.Nat.{_+_, _≤_};
-ghost use lib.ListN.{length};
+ghost use mathlib.Core.Path.{_≡_};
+ghost use lib.ListN.{length, drop};
+ghost use Rattle.text_fields.specs.Fields.{endFrom};
+ghost use Rattle.edges.specs.Asking.{takesNumbers, askedOf};
 
-// A step; the list of an async stands beside it.
-pub enum Step {
-    New(u16, u16),
-    Set(u16, u16),
-    Get(u16, u16),
-    Async(u16, u16),
-    End(u16),
+// What a case asks for: a step, by its kind and its first two numbers, or nothing that there is. A step's list stands
+// beside it.
+pub enum Asked {
+    Step(Kind, u16, u16),
     Unknown,
 }
 
@@ -32,12 +36,13 @@ pub struct Found {
 // Where the text from `from` on comes to the byte `stop`, or to its end.
 pub fn end_of(text: &[u8], from: usize, stop: u8) -> usize
     requires { ⌜ from ≤ length (now text) ⌝ }
-    ensures { λ r. ⌜ (from ≤ r) × (r ≤ length (now (text .entry))) ⌝ }
+    ensures { λ r. ⌜ (r ≡ endFrom stop (now (text .entry)) from) × (from ≤ r) × (r ≤ length (now (text .entry))) ⌝ }
 {
     run_end(text, from, stop)
 }
 
-// Where the command of a line starts: at its front, or after the colon and a blank. At the line's end, where no blank is there.
+// Where the command of a line starts: at its front, or after the colon and a blank. At the line's end, where no blank
+// is there.
 pub fn command_start(line: &[u8], colon: usize) -> usize
     ensures { λ r. ⌜ r ≤ length (now (line .entry)) ⌝ }
 {
@@ -131,42 +136,37 @@ pub fn values(text: &[u8], list: &mut [u16]) -> Found
     found
 }
 
-// A step of a task and a promise.
-fn pair_step(word: &[u8], t: u16, p: u16) -> Step {
-    if same(word, b"new") {
-        return Step::New(t, p);
+// Whether a step of the shape takes `n` numbers.
+fn takes_numbers(shape: Shape, n: usize) -> bool
+    ensures { λ r. ⌜ r ≡ takesNumbers shape n ⌝ }
+{
+    match shape {
+        Shape::One => n == 1,
+        Shape::Two => n == 2,
+        Shape::List => 2 <= n,
     }
-    if same(word, b"set") {
-        return Step::Set(t, p);
-    }
-    if same(word, b"get") {
-        return Step::Get(t, p);
-    }
-    Step::Unknown
 }
 
-// The step that a word and its numbers ask for.
-pub fn step_of(word: &[u8], values: &[u16]) -> Step {
-    let n = values.len();
-    let a = at(values, 0);
-    let b = at(values, 1);
-    if (n == 1) & same(word, b"end") {
-        return Step::End(a);
+// What the word and the numbers ask for.
+pub fn step_of(word: &[u8], values: &[u16]) -> Asked
+    ensures { λ r. ⌜ r ≡ askedOf (now (word .entry)) (now (values .entry)) ⌝ }
+{
+    match keyword_of(word) {
+        Keyword::Open => Asked::Unknown,
+        Keyword::Step(kind) => {
+            if takes_numbers(shape_of(kind), values.len()) {
+                return Asked::Step(kind, at(values, 0), at(values, 1));
+            }
+            Asked::Unknown
+        }
+        Keyword::Other(_) => Asked::Unknown,
     }
-    if n < 2 {
-        return Step::Unknown;
-    }
-    if same(word, b"async") {
-        return Step::Async(a, b);
-    }
-    if n == 2 {
-        return pair_step(word, a, b);
-    }
-    Step::Unknown
 }
 
-// The list of an async: the numbers after the child.
-pub fn list_of(values: &[u16]) -> &[u16] {
+// The list of a step: the numbers after its first two.
+pub fn list_of(values: &[u16]) -> &[u16]
+    ensures { λ r. ⌜ now r ≡ drop 2 (now (values .entry)) ⌝ }
+{
     if values.len() < 2 {
         return &values[0..0];
     }

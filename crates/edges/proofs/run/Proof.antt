@@ -1,15 +1,16 @@
 -- `run` meets its contract: each line ends further on in the text, and the board keeps its length.
 -- Assumes nothing.
-use Prim.Native.Nat.{_-_, _≤_}
+use Prim.Native.Nat.{_-_}
 use mathlib.Core.Path.{_≡_}
 use lib.ListN.{length}
 use borrow.Author.Needs.{needs}
+use Rattle.edges.specs.Board.{Fits}
 use Rattle.edges.proofs.run.Statement.{statement}
 use Rattle.edges.proofs.run.Tie as tie
 
 abbrev Inv-loop : tie.InvT-loop
 Inv-loop text list₀ board₀ s₀ at₀ list board s at =
-    (length list ≡ length list₀) × (length board ≡ length board₀) × ((s .tasks ≤ 65) × (s .promises ≤ 257) × (s .room ≤ 388))
+    (length list ≡ length list₀) × (length board ≡ length board₀) × Fits s
 
 abbrev μ-loop : tie.MeasureT-loop
 μ-loop text list₀ board₀ s₀ at₀ list board s at = length text - at

@@ -1,20 +1,24 @@
--- `load::fill` meets its contract: each turn goes on in the words that are filled.
+-- `load::fill` meets its contract: the first words are written, one more each turn, and in the end they are all.
 -- Assumes nothing.
-use Prim.Native.Nat.{_-_, _≤_}
-use mathlib.Core.Path.{_≡_}
+use Prim.Native.Nat.{_-_, _<_}
+use mathlib.Core.Path.{sym, _∙_}
 use lib.ListN.{length}
+use native.Mathlib.Omega.{arith}
 use borrow.Author.Needs.{needs}
+use Rattle.edges.specs.Board.{wordsFrom}
+use Rattle.edges.proofs.BoardLaws.{wordsFrom-length, wordsFrom-at, sets-whole}
+use Rattle.edges.proofs.BoardLaws.{Written, written-start, written-turn, written-end}
 use Rattle.edges.proofs.load.fill.Statement.{statement}
 use Rattle.edges.proofs.load.fill.Tie as tie
 
 abbrev Inv-loop : tie.InvT-loop
-Inv-loop to₀ from start i₀ to i = (i ≤ length to₀) × (length to ≡ length to₀)
+Inv-loop to₀ from start i₀ to i = Written to₀ 0 (wordsFrom from start (length to₀)) to i
 
 abbrev μ-loop : tie.MeasureT-loop
 μ-loop to₀ from start i₀ to i = length to₀ - i
 
 loop-holds : tie.Need-loop-holds Inv-loop μ-loop
-loop-holds c = search needs
+loop-holds c = written-start _ _ _
 
 add-at : tie.Need-add-at Inv-loop μ-loop
 add-at c = search needs
@@ -35,13 +39,23 @@ loop-less : tie.Need-loop-less Inv-loop μ-loop
 loop-less c = search needs
 
 loop-again : tie.Need-loop-again Inv-loop μ-loop
-loop-again c = search needs
+loop-again c =
+    let turn = c .before .before in
+    let a = turn .before .before .before .args in
+    let all = wordsFrom-length (a .from .now) (a .start) (length (a .to .now)) in
+    let below : turn .loop .i < length (a .to .now) = omega (arith, turn .loop .inv .same) in
+    let word = wordsFrom-at (a .from .now) (a .start) (length (a .to .now)) (turn .loop .i) below in
+    written-turn (turn .loop .inv) (omega (arith, all, turn .loop .inv .same)) (omega arith) (c .at .ensures ∙ sym word)
 
 same-length : tie.Need-same-length Inv-loop μ-loop
-same-length c = search needs
+same-length c = c .before .loop .inv .same
 
 returns : tie.Need-returns Inv-loop μ-loop
-returns c = search needs
+returns c =
+    let turn = c .before in
+    let a = turn .before .before .before .args in
+    let all = wordsFrom-length (a .from .now) (a .start) (length (a .to .now)) in
+    written-end (turn .loop .inv) (omega (arith, all, turn .loop .inv .same)) ∙ sets-whole _ _ all
 
 pub fill-spec : {M : Type 1} → statement M
 fill-spec =

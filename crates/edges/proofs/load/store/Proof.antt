@@ -1,20 +1,22 @@
--- `load::store` meets its contract: each turn goes on in the words, and the board keeps its length.
+-- `load::store` meets its contract: the first words of `words` are on the board, one more each turn.
 -- Assumes nothing.
-use Prim.Native.Nat.{_-_, _≤_}
-use mathlib.Core.Path.{_≡_}
+use Prim.Native.Nat.{_-_}
+use mathlib.Core.Path.{refl}
 use lib.ListN.{length}
+use native.Mathlib.Omega.{arith}
 use borrow.Author.Needs.{needs}
+use Rattle.edges.proofs.BoardLaws.{Written, written-start, written-turn, written-end}
 use Rattle.edges.proofs.load.store.Statement.{statement}
 use Rattle.edges.proofs.load.store.Tie as tie
 
 abbrev Inv-loop : tie.InvT-loop
-Inv-loop words board₀ start i₀ board i = (i ≤ length words) × (length board ≡ length board₀)
+Inv-loop words board₀ start i₀ board i = Written board₀ start words board i
 
 abbrev μ-loop : tie.MeasureT-loop
 μ-loop words board₀ start i₀ board i = length words - i
 
 loop-holds : tie.Need-loop-holds Inv-loop μ-loop
-loop-holds c = search needs
+loop-holds c = written-start _ _ _
 
 add-put : tie.Need-add-put Inv-loop μ-loop
 add-put c = search needs
@@ -35,13 +37,15 @@ loop-less : tie.Need-loop-less Inv-loop μ-loop
 loop-less c = search needs
 
 loop-again : tie.Need-loop-again Inv-loop μ-loop
-loop-again c = search needs
+loop-again c =
+    let put = c .before .before in
+    rw (put .put .ensures) (written-turn (put .before .before .before .before .loop .inv) (omega arith) refl refl)
 
 same-length : tie.Need-same-length Inv-loop μ-loop
-same-length c = search needs
+same-length c = c .before .loop .inv .same
 
 returns : tie.Need-returns Inv-loop μ-loop
-returns c = search needs
+returns c = written-end (c .before .loop .inv) (omega arith)
 
 pub store-spec : {M : Type 1} → statement M
 store-spec =

@@ -12,7 +12,10 @@ returns : tie.Need-returns
 returns c =
     let s = c .before .before in
     let a = s .args in
-    rw (c .run-end .ensures) (endFrom-from (a .stop) (a .text .now) (a .from), endFrom-within (a .stop) (a .text .now) (a .from) (s .pre))
+    let e = c .run-end .ensures in
+    let start = endFrom-from (a .stop) (a .text .now) (a .from) in
+    let stop = endFrom-within (a .stop) (a .text .now) (a .from) (s .pre) in
+    (e, rw e start, rw e stop)
 
 pub end-of-spec : {M : Type 1} → statement M
 end-of-spec = tie.close (tie.spec run-end-requires returns)

@@ -1,4 +1,5 @@
--- `read::values` meets its contract: each field ends further on in the text, and the list holds at most its length of words.
+-- `read::values` meets its contract: each field ends further on in the text, and the list holds at most its length of
+-- words.
 -- Assumes nothing.
 use Prim.Native.Nat.{_-_, _≤_}
 use mathlib.Core.Path.{_≡_}
@@ -8,7 +9,8 @@ use Rattle.edges.proofs.read.values.Statement.{statement}
 use Rattle.edges.proofs.read.values.Tie as tie
 
 abbrev Inv-loop : tie.InvT-loop
-Inv-loop text list₀ found₀ i₀ list found i = (i ≤ length text) × (length list ≡ length list₀) × (found .count ≤ length list₀)
+Inv-loop text list₀ found₀ i₀ list found i =
+    (i ≤ length text) × (length list ≡ length list₀) × (found .count ≤ length list₀)
 
 abbrev μ-loop : tie.MeasureT-loop
 μ-loop text list₀ found₀ i₀ list found i = length text - i

@@ -1,3 +1,5 @@
+-- `show::run` meets its contract: each turn prints the word once more, up to `n`.
+-- Assumes nothing.
 use Prim.Native.Nat.{_-_, _≤_}
 use borrow.Author.Needs.{needs}
 use Rattle.edges.proofs.show.run.Statement.{statement}

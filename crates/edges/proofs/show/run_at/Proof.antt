@@ -1,3 +1,5 @@
+-- `show::run_at` meets its contract: each turn goes on in the words while they are the same.
+-- Assumes nothing.
 use Prim.Native.Nat.{_-_, _≤_, _<_}
 use lib.ListN.{length}
 use borrow.Author.Needs.{needs}

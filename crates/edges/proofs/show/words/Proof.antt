@@ -1,3 +1,5 @@
+-- `show::words` meets its contract: each turn goes past one run of words that are the same.
+-- Assumes nothing.
 use Prim.Native.Nat.{_-_, _≤_}
 use lib.ListN.{length}
 use borrow.Author.Needs.{needs}
