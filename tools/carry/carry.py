@@ -96,15 +96,156 @@ def show(toks):
         else: s += ' ' + t
         if t == '{': implicit = toks[i - 1] != 'record' if i else False
     return s.replace(',)', ')').replace('; }', ' }')
-def term(s): return show(flat(cons(tree(tokens(s)))))
+def term(s): return show(flat(tidy(cons(plain(tree(tokens(s)))))))
+def plain(seq): return commaless([plain(x) if isinstance(x, list) else x for x in seq])
 
+# ---- lines: a break stands where no tuple and no record is open, if it can, since `rt fmt` parts one that holds a break over many lines
+def pieces(toks):   # what stands side by side in a term: tokens and groups
+    out, d, cur = [], 0, []
+    for t in toks:
+        cur.append(t)
+        d += (t in OPEN) - (t in CLOSE)
+        if d == 0: out.append(cur); cur = []
+    return out
+def glue(a, b): return a + b if b in (',', ';') else a + ' ' + b
+def layout(toks, room):
+    lines = ['']
+    for piece in pieces(toks):
+        flat = show(piece)
+        last = lines[-1]
+        if not last: lines[-1] = flat if len(flat) <= room else ''
+        elif len(glue(last, flat)) <= room or flat in (',', ';'): lines[-1] = glue(last, flat)
+        elif len(flat) <= room - 4: lines.append('    ' + flat)
+        else: flat = None
+        if flat is not None and lines[-1]: continue
+        if len(piece) == 1: lines.append('    ' + piece[0]); continue
+        inner = layout(piece[1:-1], room - 8)
+        inner = [piece[0] + inner[0]] + inner[1:]
+        inner[-1] += piece[-1]
+        if lines[-1] and len(lines[-1]) + 1 + len(inner[0]) <= room: lines[-1] += ' ' + inner[0]
+        elif lines[-1]: lines.append('    ' + inner[0])
+        else: lines[-1] = inner[0]
+        lines += ['    ' + l for l in inner[1:]]
+    return lines
 def wrap(ind, s):
-    pad, lines, cur = ' ' * ind, [], ''
-    for w in s.split(' '):
-        if cur and ind + len(cur) + 1 + len(w) > width: lines.append(cur); cur = '    ' + w
-        else: cur = cur + ' ' + w if cur else w
-    lines.append(cur)
-    return '\n'.join(pad + l for l in lines)
+    if ind + len(s) <= width: return ' ' * ind + s
+    if s.startswith('use '):   # two lines of a module
+        m, ns = re.match(r'(use \S+\.)\{(.*)\}$', s).groups()
+        at = ns.rindex(', ', 0, width - len(m) - 2)
+        return wrap(ind, m + '{' + ns[:at] + '}') + '\n' + wrap(ind, m + '{' + ns[at + 2:] + '}')
+    return '\n'.join(' ' * ind + l for l in layout(tokens(s), width - ind))
+
+# ---- (tt, (tt, .. x)) is `units n x`, and record { before = c .before; f = c .f } is c
+def commaless(seq): return seq[:-2] + seq[-1:] if len(seq) > 2 and seq[-2] == ',' else seq
+def ttail(g):   # how many tt, and what is after them
+    if isinstance(g, list) and len(g) == 5 and g[:3] == ['(', 'tt', ',']:
+        n, x = ttail(g[3])
+        return n + 1, x
+    return 0, g
+def tidy(seq):
+    n, x = ttail(seq)
+    if n > 3: return ['(', 'units', str(n), tidy(x) if isinstance(x, list) else x, ')']
+    out = commaless([tidy(x) if isinstance(x, list) else x for x in seq])
+    if len(out) > 2 and out[-3] == ',' and isinstance(out[-2], list) and out[-2][1:2] == ['units']: out[-2:-1] = out[-2][1:-1]
+    k = 0
+    while k + 1 < len(out):
+        g = out[k + 1]
+        if out[k] == 'record' and isinstance(g, list):
+            fs = re.fullmatch(r'\{ before = (\S+) \.before; (\S+) = \1 \.\2;? \}', ' '.join(flat(g)).replace(' ;', ';'))
+            if fs: out[k:k + 2] = [fs.group(1)]
+        k += 1
+    return out
+
+# ---- the same term under two names of one module, and a name for another: one of them is enough
+# the arguments of a call, named where the contexts are
+def arguments(decls):
+    new, at = [], next((k for k, (i, d) in enumerate(decls) if re.match(r'module _ \(claims· : Claims\) where', d)), None)
+    if at is None: return decls
+    out = []
+    for i, d in decls:
+        pos = 0
+        while True:
+            m = re.compile(r"(ps·(\d+)) r·\2 \(claims· \.\d+\)(?: \(claims· \.\d+\))? (T\d+) \(").search(d, pos)
+            if not m: break
+            e = match(d, m.end() - 1)
+            key = (m.group(1), m.group(3), d[m.end() - 1:e])
+            if key not in new: new.append(key)
+            d = d[:m.end() - 1] + f'a{new.index(key)}' + d[e:]
+            pos = m.end()
+        out.append([i, d])
+    mine = [x for k, (p, t, a) in enumerate(new) for x in ([0, f'abbrev a{k} : ArgsT {p} ({t} .locals)'], [0, f'a{k} = {a}'])]
+    return out[:at] + mine + out[at:]
+# a record that a term makes more than once, bound where the last of its variables is
+def bound(decls):
+    kinds = {}
+    for k, (i, d) in enumerate(decls):
+        m = re.match(r'pub record (\S+) : Type 0 where$', d)
+        if m:
+            fs = [re.match(r'pub (\S+) :', x).group(1) for j, x in decls[k + 1:k + 8] if j == i + 2 and re.match(r'pub (\S+) :', x)]
+            kinds[tuple(fs)] = m.group(1)
+    out = []
+    for i, d in decls:
+        n = 0
+        if re.match(r'(lay\d+|laid) = ', d):
+            while True:
+                found = {}
+                for m in re.finditer(r'record \{', d):
+                    t = d[m.start():match(d, m.end() - 1)]
+                    if len(t) > 60: found[t] = found.get(t, 0) + 1
+                ts = sorted((t for t, c in found.items() if c > 1), key=lambda t: -len(t))
+                ts = [t for t in ts if not kinds.get(field_names(t), '·own').endswith('·own')]
+                if not ts: break
+                t = ts[0]
+                vs = set(re.findall(r"[^\s(){},;]+", t))
+                first = d.index(t)
+                b = max(m.end() for m in re.finditer(r'λ ([^.λ]+)\. ', d) if m.end() <= first and set(m.group(1).split()) & vs)
+                n += 1
+                z = f'z{n}'
+                d = d[:b] + f'let {z} : {kinds[field_names(t)]} = {t} in ' + d[b:].replace(t, z)
+        out.append([i, d])
+    return out
+# a statement's own text, where its name is used once: a derivation says its statement by its type
+def inlined(decls):
+    decls = [[i, re.sub(r'(?<= )b\d+(?= )', '_', d) if re.match(r'd\d+ = (s-seq|t-seq) ', d) else d] for i, d in decls]
+    while True:
+        body = '\n'.join(d for _, d in decls)
+        for k, (i, d) in enumerate(decls):
+            m = re.match(r'abbrev (b\d+) : Body$', d)
+            if not m or re.match(r'b\d+ = (seq|block|Syntax\.loop|cond)', decls[k + 1][1]): continue
+            n, t = m.group(1), decls[k + 1][1].split(' = ', 1)[1]
+            uses = [j for j, (_, x) in enumerate(decls) if re.search(rf'(?<= ){n}(?= |$)', x) and j not in (k, k + 1)]
+            if len(uses) == 1 and decls[uses[0]][1].startswith('b') and len(re.findall(rf'(?<= ){n}(?= |$)', decls[uses[0]][1])) == 1:
+                j = uses[0]
+                decls[j] = [decls[j][0], re.sub(rf'(?<= ){n}(?= |$)', lambda _: f'({t})' if ' ' in t else t, decls[j][1])]
+                del decls[k:k + 2]
+                break
+        else: return decls
+def field_names(t):
+    g = tree(tokens(t))[1]
+    return tuple(g[k - 1] for k, x in enumerate(g) if x == '=')
+
+def merged(decls):
+    names = r"(?:at|[absmtgTGOΔW])\d+"
+    scope, stack, same, to, out = [], [], {}, {}, []
+    def put(s): return re.sub(rf"(?<![\w.·']){names}(?![\w·'])", lambda m: to.get(m.group(0), m.group(0)), s)
+    k = 0
+    while k < len(decls):
+        i, d = decls[k]
+        while stack and stack[-1][0] >= i: stack.pop()
+        if d.startswith('module '): stack.append((i, k))
+        m = re.match(rf'abbrev (?:pub )?({names}) : (.*)$', d)
+        if not m: out.append([i, put(d)]); k += 1; continue
+        n, ty = m.group(1), put(m.group(2))
+        body = put(decls[k + 1][1][len(n) + 3:])
+        alias = re.fullmatch(rf'λ Ψ\. ({names}) Ψ|({names})', body)
+        key = (tuple(x[1] for x in stack), ty, body)
+        if alias: to[n] = alias.group(1) or alias.group(2)
+        elif key in same: to[n] = same[key]
+        else:
+            same[key] = n
+            out += [[i, d[:m.start(2)] + ty], [i, f'{n} = {body}']]
+        k += 2
+    return out
 
 # ---- names: `Module.name` by the module's last part, brought in by a `use` line and written bare where no other name clashes
 def unqualify(decls, uses, keep=()):
@@ -226,6 +367,10 @@ def write(path, head, decls, uses, keep=()):
     decls = [[i, d.replace('List.[]', '[]')] for i, d in decls]
     decls, lines = unqualify(decls, uses, keep)
     decls, more = shorten(decls)
+    decls = inlined(bound(arguments(merged(decls))))
+    used = ' '.join(d for _, d in decls)
+    if 'ArgsT' in used: more.append('use borrow.Fn.Args.{ArgsT}')
+    if 'units ' in used: more.append(f'use {ELEMS}.{{units}}')
     # a part of an array is lent at its elements' own type
     if 'part' in sys.argv: decls = [[i, re.sub(r'(\(arr-shr (\w+)-row \d+ \d+\)) \2-pointed \(tyRef', r'\1 \2-mir (tyRef', d)] for i, d in decls]
     lines = [l.replace('use mathlib.Core.List.{', 'use mathlib.Core.List.{[], _∷_, ') for l in lines] + more

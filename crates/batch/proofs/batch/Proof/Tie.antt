@@ -26,22 +26,6 @@ MeasureT-loop = Lts.MeasureT-loop
 abbrev pub Start : (Inv : InvT-loop) → (μ : MeasureT-loop) → Type 0
 Start = λ Inv μ. Lts.Start (Reads''.Asked, Reads''.Learnt, Reads'3.Asked, Reads'3.Learnt, Reads.Asked, Reads.Learnt) Reads'.Pre Reads'.Post Inv μ
 
-abbrev pub After-slice-known : (Inv : InvT-loop) → (μ : MeasureT-loop) → Type 0
-After-slice-known = λ Inv μ. Lts.After-slice-known (Reads''.Asked, Reads''.Learnt, Reads'3.Asked, Reads'3.Learnt, Reads.Asked, Reads.Learnt) Reads'.Pre Reads'.Post Inv μ
-
-abbrev pub After-slice-known2 : (Inv : InvT-loop) → (μ : MeasureT-loop) → Type 0
-After-slice-known2 = λ Inv μ. Lts.After-slice-known2 (Reads''.Asked, Reads''.Learnt, Reads'3.Asked, Reads'3.Learnt, Reads.Asked, Reads.Learnt) Reads'.Pre Reads'.Post Inv μ
-
-abbrev pub After-slice-known3 : (Inv : InvT-loop) → (μ : MeasureT-loop) → Type 0
-After-slice-known3 = λ Inv μ. Lts.After-slice-known3 (Reads''.Asked, Reads''.Learnt, Reads'3.Asked, Reads'3.Learnt, Reads.Asked, Reads.Learnt) Reads'.Pre Reads'.Post Inv μ
-
-abbrev pub After-shared-slice-known : (Inv : InvT-loop) → (μ : MeasureT-loop) → Type 0
-After-shared-slice-known = λ Inv μ. Lts.After-shared-slice-known (Reads''.Asked, Reads''.Learnt, Reads'3.Asked, Reads'3.Learnt, Reads.Asked, Reads.Learnt) Reads'.Pre Reads'.Post
-    Inv μ
-
-abbrev pub After-slice-known4 : (Inv : InvT-loop) → (μ : MeasureT-loop) → Type 0
-After-slice-known4 = λ Inv μ. Lts.After-slice-known4 (Reads''.Asked, Reads''.Learnt, Reads'3.Asked, Reads'3.Learnt, Reads.Asked, Reads.Learnt) Reads'.Pre Reads'.Post Inv μ
-
 abbrev pub After-call-refusal-arg : (Inv : InvT-loop) → (μ : MeasureT-loop) → Type 0
 After-call-refusal-arg = λ Inv μ. Lts.After-call-refusal-arg (Reads''.Asked, Reads''.Learnt, Reads'3.Asked, Reads'3.Learnt, Reads.Asked, Reads.Learnt) Reads'.Pre Reads'.Post Inv μ
 
@@ -88,26 +72,14 @@ After-turn = λ Inv μ. Lts.After-turn (Reads''.Asked, Reads''.Learnt, Reads'3.A
 abbrev pub After-tasks : (Inv : InvT-loop) → (μ : MeasureT-loop) → Type 0
 After-tasks = λ Inv μ. Lts.After-tasks (Reads''.Asked, Reads''.Learnt, Reads'3.Asked, Reads'3.Learnt, Reads.Asked, Reads.Learnt) Reads'.Pre Reads'.Post Inv μ
 
-abbrev pub After-slice-known5 : (Inv : InvT-loop) → (μ : MeasureT-loop) → Type 0
-After-slice-known5 = λ Inv μ. Lts.After-slice-known5 (Reads''.Asked, Reads''.Learnt, Reads'3.Asked, Reads'3.Learnt, Reads.Asked, Reads.Learnt) Reads'.Pre Reads'.Post Inv μ
-
 abbrev pub After-promises : (Inv : InvT-loop) → (μ : MeasureT-loop) → Type 0
 After-promises = λ Inv μ. Lts.After-promises (Reads''.Asked, Reads''.Learnt, Reads'3.Asked, Reads'3.Learnt, Reads.Asked, Reads.Learnt) Reads'.Pre Reads'.Post Inv μ
-
-abbrev pub After-slice-known6 : (Inv : InvT-loop) → (μ : MeasureT-loop) → Type 0
-After-slice-known6 = λ Inv μ. Lts.After-slice-known6 (Reads''.Asked, Reads''.Learnt, Reads'3.Asked, Reads'3.Learnt, Reads.Asked, Reads.Learnt) Reads'.Pre Reads'.Post Inv μ
 
 abbrev pub After-report : (Inv : InvT-loop) → (μ : MeasureT-loop) → Type 0
 After-report = λ Inv μ. Lts.After-report (Reads''.Asked, Reads''.Learnt, Reads'3.Asked, Reads'3.Learnt, Reads.Asked, Reads.Learnt) Reads'.Pre Reads'.Post Inv μ
 
-abbrev pub After-slice-known7 : (Inv : InvT-loop) → (μ : MeasureT-loop) → Type 0
-After-slice-known7 = λ Inv μ. Lts.After-slice-known7 (Reads''.Asked, Reads''.Learnt, Reads'3.Asked, Reads'3.Learnt, Reads.Asked, Reads.Learnt) Reads'.Pre Reads'.Post Inv μ
-
 abbrev pub After-answers : (Inv : InvT-loop) → (μ : MeasureT-loop) → Type 0
 After-answers = λ Inv μ. Lts.After-answers (Reads''.Asked, Reads''.Learnt, Reads'3.Asked, Reads'3.Learnt, Reads.Asked, Reads.Learnt) Reads'.Pre Reads'.Post Inv μ
-
-abbrev pub After-slice-known8 : (Inv : InvT-loop) → (μ : MeasureT-loop) → Type 0
-After-slice-known8 = λ Inv μ. Lts.After-slice-known8 (Reads''.Asked, Reads''.Learnt, Reads'3.Asked, Reads'3.Learnt, Reads.Asked, Reads.Learnt) Reads'.Pre Reads'.Post Inv μ
 
 abbrev pub Need-call-refusal-requires : (Inv : InvT-loop) → (μ : MeasureT-loop) → Type 0
 Need-call-refusal-requires = λ Inv μ. Lts.Need-call-refusal-requires (Reads''.Asked, Reads''.Learnt, Reads'3.Asked, Reads'3.Learnt, Reads.Asked, Reads.Learnt) Reads'.Pre
@@ -158,51 +130,20 @@ Need-returns-2 = λ Inv μ. Lts.Need-returns-2 (Reads''.Asked, Reads''.Learnt, R
 
 module _ {M : Type 1} where
   pub spec : (Inv : InvT-loop) → (μ : MeasureT-loop) → (answer : Need-call-refusal-requires Inv μ) → (answer : Need-same-length Inv μ) → (answer : Need-same-length-2 Inv μ) →
-      (answer : Need-returns Inv μ) → (answer : Need-loop-holds Inv μ) → (answer : Need-record-at-requires Inv μ) → (answer : Need-turn-requires Inv μ) → (answer : Need-add-i Inv
-      μ) → (answer : Need-loop-less Inv μ) → (answer : Need-loop-again Inv μ) → (answer : Need-same-length-3 Inv μ) → (answer : Need-same-length-4 Inv μ) → (answer :
-      Need-same-length-5 Inv μ) → (answer : Need-same-length-6 Inv μ) → (answer : Need-returns-2 Inv μ) → Lts.Closed (
-        Reads''.Asked,
-        Reads''.Learnt,
-        Reads'3.Asked,
-        Reads'3.Learnt,
-        Reads.Asked,
-        Reads.Learnt,
-      ) Reads'.Pre Reads'.Post M
-  spec = λ Inv μ answer answer' answer'' answer'3 answer'4 answer'5 answer'6 answer'7 answer'8 answer'9 answer'10 answer'11 answer'12 answer'13 answer'14. Lts.spec (
-    Reads''.Asked,
-    Reads''.Learnt,
-    Reads'3.Asked,
-    Reads'3.Learnt,
-    Reads.Asked,
-    Reads.Learnt,
-  ) Reads'.Pre Reads'.Post Inv μ answer answer' answer'' answer'3 answer'4 answer'5 answer'6 answer'7
-      answer'8 answer'9 answer'10 answer'11 answer'12 answer'13 answer'14
+      (answer : Need-returns Inv μ) → (answer : Need-loop-holds Inv μ) → (answer : Need-record-at-requires Inv μ) → (answer : Need-turn-requires Inv μ) →
+      (answer : Need-add-i Inv μ) → (answer : Need-loop-less Inv μ) → (answer : Need-loop-again Inv μ) → (answer : Need-same-length-3 Inv μ) → (answer : Need-same-length-4 Inv μ) →
+      (answer : Need-same-length-5 Inv μ) → (answer : Need-same-length-6 Inv μ) → (answer : Need-returns-2 Inv μ) → Lts.Closed
+      (Reads''.Asked, Reads''.Learnt, Reads'3.Asked, Reads'3.Learnt, Reads.Asked, Reads.Learnt) Reads'.Pre Reads'.Post M
+  spec = λ Inv μ answer answer' answer'' answer'3 answer'4 answer'5 answer'6 answer'7 answer'8 answer'9 answer'10 answer'11 answer'12 answer'13 answer'14. Lts.spec
+      (Reads''.Asked, Reads''.Learnt, Reads'3.Asked, Reads'3.Learnt, Reads.Asked, Reads.Learnt) Reads'.Pre Reads'.Post Inv μ answer answer' answer'' answer'3 answer'4 answer'5
+      answer'6 answer'7 answer'8 answer'9 answer'10 answer'11 answer'12 answer'13 answer'14
 
   pub close : Lts.Closed (Reads''.Asked, Reads''.Learnt, Reads'3.Asked, Reads'3.Learnt, Reads.Asked, Reads.Learnt) Reads'.Pre Reads'.Post M → statement M
   unfolding Code.routine tablesOf
   close = λ closed 𝓤 H 𝓜 𝓖 𝓡. Written.close 6 Reads'.params Reads'.result Reads'.Ghost Reads'.requires Reads'.ensures Reads'.pre-read Reads'.Pinned Reads'.Owned Reads'.post-read
-      record { M = M; 𝓤 = 𝓤; H = H; 𝓜 = 𝓜; 𝓖 = 𝓖; 𝓡 = 𝓡 } env Key.name function (unfolded 𝓤 H 𝓜 𝓡) (λ κs a g. tt) (λ κs. Reads'.owns κs record {
-        M = M;
-        𝓤 = 𝓤;
-        H = H;
-        𝓜 = 𝓜;
-        𝓖 = 𝓖;
-        𝓡 = 𝓡;
-      }) (Reads'.passes record { M = M; 𝓤 = 𝓤; H = H; 𝓜 = 𝓜; 𝓖 = 𝓖; 𝓡 = 𝓡 }) λ g. closed 𝓤 H (𝓖 .A) (givenOf 𝓤 H 𝓜 𝓖) (Over 𝓤 H 𝓜 𝓖 𝓡 env) (Reads''.known record {
-        M = M;
-        𝓤 =
-            𝓤;
-        H = H;
-        𝓜 = 𝓜;
-        𝓖 = 𝓖;
-        𝓡 = 𝓡;
-      } env Symbol'.name Symbol'.routine calls-batch·call-refusal (Met'.met 𝓤 H 𝓜 𝓖 𝓡)) (Reads'3.known record {
-        M = M;
-        𝓤 = 𝓤;
-        H = H;
-        𝓜 = 𝓜;
-        𝓖 = 𝓖;
-        𝓡 =
-            𝓡;
-      } env Symbol''.name Symbol''.routine calls-batch·record-at (Met''.met 𝓤 H 𝓜 𝓖 𝓡)) (Reads.known record { M = M; 𝓤 = 𝓤; H = H; 𝓜 = 𝓜; 𝓖 = 𝓖; 𝓡 = 𝓡 } env Symbol.name
-      Symbol.routine calls-batch-record·turn (Met.met 𝓤 H 𝓜 𝓖 𝓡))
+      record { M = M; 𝓤 = 𝓤; H = H; 𝓜 = 𝓜; 𝓖 = 𝓖; 𝓡 = 𝓡 } env Key.name function (unfolded 𝓤 H 𝓜 𝓡) (λ κs a g. tt)
+      (λ κs. Reads'.owns κs record { M = M; 𝓤 = 𝓤; H = H; 𝓜 = 𝓜; 𝓖 = 𝓖; 𝓡 = 𝓡 }) (Reads'.passes record { M = M; 𝓤 = 𝓤; H = H; 𝓜 = 𝓜; 𝓖 = 𝓖; 𝓡 = 𝓡 }) λ g. closed 𝓤 H (𝓖 .A)
+      (givenOf 𝓤 H 𝓜 𝓖) (Over 𝓤 H 𝓜 𝓖 𝓡 env)
+      (Reads''.known record { M = M; 𝓤 = 𝓤; H = H; 𝓜 = 𝓜; 𝓖 = 𝓖; 𝓡 = 𝓡 } env Symbol'.name Symbol'.routine calls-batch·call-refusal (Met'.met 𝓤 H 𝓜 𝓖 𝓡))
+      (Reads'3.known record { M = M; 𝓤 = 𝓤; H = H; 𝓜 = 𝓜; 𝓖 = 𝓖; 𝓡 = 𝓡 } env Symbol''.name Symbol''.routine calls-batch·record-at (Met''.met 𝓤 H 𝓜 𝓖 𝓡))
+      (Reads.known record { M = M; 𝓤 = 𝓤; H = H; 𝓜 = 𝓜; 𝓖 = 𝓖; 𝓡 = 𝓡 } env Symbol.name Symbol.routine calls-batch-record·turn (Met.met 𝓤 H 𝓜 𝓖 𝓡))

@@ -1,4 +1,4 @@
-use Rattle.batch.proofs.Elems.{Record-copy, Record-laws, Record-mir, Record-plain, Record-pointed, Record-row, Record-type, U16, put}
+use Rattle.batch.proofs.Elems.{Record-copy, Record-laws, Record-mir, Record-plain, Record-pointed, Record-row, Record-type, U16, put, units}
 use Prim.Native.Nat.{ℕ}
 use Rattle.batch.proofs.Called.{the-type}
 use Rattle.batch.proofs.Called.Laws.{the-copy, the-laws, the-plain}
@@ -50,50 +50,15 @@ use lib.Dec.{lit<}
 use mathlib.Core.List.{[], _∷_, List, _++_}
 use mathlib.Core.Option.{none, some}
 use mathlib.Core.Path.{refl}
-use mir.Syntax.{
-  Body,
-  Home,
-  Ty,
-  addrOf,
-  aggregate,
-  assign,
-  call,
-  deref,
-  erased,
-  field,
-  imm,
-  int,
-  memorySlot,
-  mut,
-  named,
-  offset,
-  op2,
-  place,
-  return,
-  rvOpd,
-  seq,
-  sub,
-  tcons,
-  tnil,
-  ttcons,
-  ttnil,
-  tyArray,
-  tyEnum,
-  tyInt,
-  tyPtr,
-  tyRef,
-  tyStruct,
-  unsigned,
-  valueLocal,
-  w16,
-  w64,
-}
+use mir.Syntax.{Body, Home, Ty, addrOf, aggregate, assign, call, deref, erased, field, imm, int, memorySlot, mut, named, offset, op2, place, return, rvOpd, seq, sub, tcons, tnil}
+use mir.Syntax.{ttcons, ttnil, tyArray, tyEnum, tyInt, tyPtr, tyRef, tyStruct, unsigned, valueLocal, w16, w64}
 use mir.Syntax
 use mir.Val.{Fits}
 use prog.Wp.{Env, Heap, Tables, WpFn}
 use types.Kit.{Given}
 use denote.Slice.{sliceTy}
 use borrow.Table.Row.{Life}
+use borrow.Fn.Args.{ArgsT}
 
 abbrev pub ps : List (PK 5)
 ps = pMutS U16 0 tt ∷ pMutS U16 1 tt ∷ pMutS U16 2 tt ∷ pArr (eStruct Record-type Record-laws Record-copy) (eStruct-laws Record-type Record-laws Record-copy Record-plain) 256 ∷
@@ -106,16 +71,16 @@ r = rVal record {
   val = Laws'.val the-type the-laws;
   tells = Laws'.tells the-type the-laws;
   still = Laws'.still the-type the-copy yes;
-  row =
-      whole (Declared.row the-type);
+  row = whole
+      (Declared.row the-type);
   rd = λ x. x;
   mk = λ x. x;
 } λ M 𝓤 H A W. record {
   copies = Laws'.copy the-type the-copy 𝓤 H A W;
-  lawful = Laws'.lawful the-type the-laws 𝓤 H A W
-      tt;
+  lawful = Laws'.lawful the-type the-laws 𝓤 H A W tt;
   makes = Laws'.makes the-type the-plain 𝓤 H A;
-  in-mem = mem-whole 𝓤 H A W (Declared.row the-type);
+  in-mem = mem-whole 𝓤 H A W
+      (Declared.row the-type);
   of-mem = whole-mem 𝓤 H A W (Declared.row the-type);
 }
 
@@ -137,16 +102,16 @@ r·0 = rVal record {
   val = Laws'.val the-type the-laws;
   tells = Laws'.tells the-type the-laws;
   still = Laws'.still the-type the-copy yes;
-  row
-      = whole (Declared.row the-type);
+  row = whole
+      (Declared.row the-type);
   rd = λ x. x;
   mk = λ x. x;
 } λ M 𝓤 H A W. record {
   copies = Laws'.copy the-type the-copy 𝓤 H A W;
-  lawful = Laws'.lawful the-type the-laws 𝓤 H A W
-      tt;
+  lawful = Laws'.lawful the-type the-laws 𝓤 H A W tt;
   makes = Laws'.makes the-type the-plain 𝓤 H A;
-  in-mem = mem-whole 𝓤 H A W (Declared.row the-type);
+  in-mem = mem-whole 𝓤 H A W
+      (Declared.row the-type);
   of-mem = whole-mem 𝓤 H A W (Declared.row the-type);
 }
 
@@ -154,99 +119,55 @@ abbrev pub hs : List Home
 hs = valueLocal ∷ valueLocal ∷ valueLocal ∷ valueLocal ∷ valueLocal ∷ valueLocal ∷ valueLocal ∷ valueLocal ∷ memorySlot ∷ valueLocal ∷ valueLocal ∷ valueLocal ∷ valueLocal ∷
     valueLocal ∷ valueLocal ∷ valueLocal ∷ valueLocal ∷ valueLocal ∷ valueLocal ∷ valueLocal ∷ valueLocal ∷ valueLocal ∷ []
 
-abbrev b0 : Body
-b0 = assign (place 8 []) (rvOpd (Syntax.copy (place 4 [])))
-
-abbrev b1 : Body
-b1 = assign (place 9 []) (addrOf (place 1 (field 0 ∷ deref (tyInt w16) ∷ [])))
-
-abbrev b2 : Body
-b2 = assign (place 10 []) (aggregate (Syntax.copy (place 9 []) ∷ Syntax.copy (place 1 (field 1 ∷ [])) ∷ []))
-
-abbrev b3 : Body
-b3 = assign (place 11 []) (addrOf (place 2 (field 0 ∷ deref (tyInt w16) ∷ [])))
-
-abbrev b4 : Body
-b4 = assign (place 12 []) (aggregate (Syntax.copy (place 11 []) ∷ Syntax.copy (place 2 (field 1 ∷ [])) ∷ []))
-
-abbrev b5 : Body
-b5 = assign (place 13 []) (addrOf (place 3 (field 0 ∷ deref (tyInt w16) ∷ [])))
-
-abbrev b6 : Body
-b6 = assign (place 14 []) (aggregate (Syntax.copy (place 13 []) ∷ Syntax.copy (place 3 (field 1 ∷ [])) ∷ []))
-
-abbrev b7 : Body
-b7 = assign (place 15 []) (addrOf (place 8 []))
-
-abbrev b8 : Body
-b8 = assign (place 16 []) (op2 offset (Syntax.copy (place 15 [])) (int w64 0))
-
-abbrev b9 : Body
-b9 = assign (place 17 []) (op2 (sub unsigned) (Syntax.copy (place 5 [])) (int w64 0))
-
-abbrev b10 : Body
-b10 = assign (place 18 []) (addrOf (place 16 (deref Record-mir ∷ [])))
-
-abbrev b11 : Body
-b11 = assign (place 19 []) (aggregate (Syntax.copy (place 18 []) ∷ Syntax.copy (place 17 []) ∷ []))
-
-abbrev b12 : Body
-b12 = assign (place 20 []) (addrOf (place 7 (field 0 ∷ deref (tyInt w16) ∷ [])))
-
-abbrev b13 : Body
-b13 = assign (place 21 []) (aggregate (Syntax.copy (place 20 []) ∷ Syntax.copy (place 7 (field 1 ∷ [])) ∷ []))
-
-abbrev b14 : Body
-b14 = call "batch::batch" (Syntax.copy (place 10 []) ∷ Syntax.copy (place 12 []) ∷ Syntax.copy (place 14 []) ∷ Syntax.copy (place 19 []) ∷ Syntax.copy (place 6 []) ∷ Syntax.copy
-    (place 21 []) ∷ []) (place 0 [])
-
 abbrev b15 : Body
 b15 = return
 
 abbrev b16 : Body
-b16 = seq b14 b15
+b16 = seq (call "batch::batch"
+    (Syntax.copy (place 10 []) ∷ Syntax.copy (place 12 []) ∷ Syntax.copy (place 14 []) ∷ Syntax.copy (place 19 []) ∷ Syntax.copy (place 6 []) ∷ Syntax.copy (place 21 [])
+    ∷ []) (place 0 [])) b15
 
 abbrev b17 : Body
-b17 = seq b13 b16
+b17 = seq (assign (place 21 []) (aggregate (Syntax.copy (place 20 []) ∷ Syntax.copy (place 7 (field 1 ∷ [])) ∷ []))) b16
 
 abbrev b18 : Body
-b18 = seq b12 b17
+b18 = seq (assign (place 20 []) (addrOf (place 7 (field 0 ∷ deref (tyInt w16) ∷ [])))) b17
 
 abbrev b19 : Body
-b19 = seq b11 b18
+b19 = seq (assign (place 19 []) (aggregate (Syntax.copy (place 18 []) ∷ Syntax.copy (place 17 []) ∷ []))) b18
 
 abbrev b20 : Body
-b20 = seq b10 b19
+b20 = seq (assign (place 18 []) (addrOf (place 16 (deref Record-mir ∷ [])))) b19
 
 abbrev b21 : Body
-b21 = seq b9 b20
+b21 = seq (assign (place 17 []) (op2 (sub unsigned) (Syntax.copy (place 5 [])) (int w64 0))) b20
 
 abbrev b22 : Body
-b22 = seq b8 b21
+b22 = seq (assign (place 16 []) (op2 offset (Syntax.copy (place 15 [])) (int w64 0))) b21
 
 abbrev b23 : Body
-b23 = seq b7 b22
+b23 = seq (assign (place 15 []) (addrOf (place 8 []))) b22
 
 abbrev b24 : Body
-b24 = seq b6 b23
+b24 = seq (assign (place 14 []) (aggregate (Syntax.copy (place 13 []) ∷ Syntax.copy (place 3 (field 1 ∷ [])) ∷ []))) b23
 
 abbrev b25 : Body
-b25 = seq b5 b24
+b25 = seq (assign (place 13 []) (addrOf (place 3 (field 0 ∷ deref (tyInt w16) ∷ [])))) b24
 
 abbrev b26 : Body
-b26 = seq b4 b25
+b26 = seq (assign (place 12 []) (aggregate (Syntax.copy (place 11 []) ∷ Syntax.copy (place 2 (field 1 ∷ [])) ∷ []))) b25
 
 abbrev b27 : Body
-b27 = seq b3 b26
+b27 = seq (assign (place 11 []) (addrOf (place 2 (field 0 ∷ deref (tyInt w16) ∷ [])))) b26
 
 abbrev b28 : Body
-b28 = seq b2 b27
+b28 = seq (assign (place 10 []) (aggregate (Syntax.copy (place 9 []) ∷ Syntax.copy (place 1 (field 1 ∷ [])) ∷ []))) b27
 
 abbrev b29 : Body
-b29 = seq b1 b28
+b29 = seq (assign (place 9 []) (addrOf (place 1 (field 0 ∷ deref (tyInt w16) ∷ [])))) b28
 
 abbrev b30 : Body
-b30 = seq b0 b29
+b30 = seq (assign (place 8 []) (rvOpd (Syntax.copy (place 4 [])))) b29
 
 abbrev pub body : Body
 body = b30
@@ -256,28 +177,15 @@ Claims = In 6 ps·0 × Out 6 ps·0 r·0
 
 abbrev pub t0 : List Entry
 t0 = (0, any-gone (tyEnum (98 ∷ 97 ∷ 116 ∷ 99 ∷ 104 ∷ 58 ∷ 58 ∷ 67 ∷ 97 ∷ 108 ∷ 108 ∷ 101 ∷ 100 ∷ []) (ttcons (tcons (tyInt w16) tnil) (ttcons (tcons (tyInt w64) tnil) ttnil)))) ∷
-    (1, mslice U16 (tyRef (named 0) mut (tyInt w16)) 0) ∷ (2, mslice U16 (tyRef (named 1) mut (tyInt w16)) 1) ∷ (3, mslice U16 (tyRef (named 2) mut (tyInt w16)) 2) ∷ (
-      4,
-      arrF
-          Record-row 256 0,
-    ) ∷ (5, sc-here (sInt w64)) ∷ (6, sslice U16 (tyRef (named 3) imm (tyInt w16)) 3) ∷ (7, mslice U16 (tyRef (named 4) mut (tyInt w16)) 4) ∷ (
-      8,
-      any-gone (tyArray
-          Record-mir 256),
-    ) ∷ (9, any-gone (tyRef erased mut (tyInt w16))) ∷ (10, any-gone (sliceTy (tyRef erased mut (tyInt w16)))) ∷ (11, any-gone (tyRef erased mut (tyInt w16))) ∷ (
-      12,
-      any-gone (sliceTy (tyRef erased mut (tyInt w16))),
-    ) ∷ (13, any-gone (tyRef erased mut (tyInt w16))) ∷ (14, any-gone (sliceTy (tyRef erased mut (tyInt w16)))) ∷ (
-      15,
-      any-gone
-          tyPtr,
-    ) ∷ []
+    (1, mslice U16 (tyRef (named 0) mut (tyInt w16)) 0) ∷ (2, mslice U16 (tyRef (named 1) mut (tyInt w16)) 1) ∷ (3, mslice U16 (tyRef (named 2) mut (tyInt w16)) 2) ∷
+    (4, arrF Record-row 256 0) ∷ (5, sc-here (sInt w64)) ∷ (6, sslice U16 (tyRef (named 3) imm (tyInt w16)) 3) ∷ (7, mslice U16 (tyRef (named 4) mut (tyInt w16)) 4) ∷
+    (8, any-gone (tyArray Record-mir 256)) ∷ (9, any-gone (tyRef erased mut (tyInt w16))) ∷ (10, any-gone (sliceTy (tyRef erased mut (tyInt w16)))) ∷
+    (11, any-gone (tyRef erased mut (tyInt w16))) ∷ (12, any-gone (sliceTy (tyRef erased mut (tyInt w16)))) ∷ (13, any-gone (tyRef erased mut (tyInt w16))) ∷
+    (14, any-gone (sliceTy (tyRef erased mut (tyInt w16)))) ∷ (15, any-gone tyPtr) ∷ []
 
 abbrev pub t1 : List Entry
-t1 = (16, any-gone tyPtr) ∷ (17, any-gone (tyInt w64)) ∷ (18, any-gone (tyRef erased imm Record-pointed)) ∷ (19, any-gone (sliceTy (tyRef erased imm Record-pointed))) ∷ (
-  20,
-  any-gone (tyRef erased mut (tyInt w16)),
-) ∷ (21, any-gone (sliceTy (tyRef erased mut (tyInt w16)))) ∷ []
+t1 = (16, any-gone tyPtr) ∷ (17, any-gone (tyInt w64)) ∷ (18, any-gone (tyRef erased imm Record-pointed)) ∷ (19, any-gone (sliceTy (tyRef erased imm Record-pointed))) ∷
+    (20, any-gone (tyRef erased mut (tyInt w16))) ∷ (21, any-gone (sliceTy (tyRef erased mut (tyInt w16)))) ∷ []
 
 abbrev pub t2 : List Entry
 t2 = put 5 (any-gone (tyInt w64)) (put 4 (any-gone (tyArray Record-mir 256)) (put 0 (whole (Declared.row the-type)) t0))
@@ -340,8 +248,8 @@ abbrev pub t21 : List Entry
 t21 = put 5 (mslice U16 (tyRef erased mut (tyInt w16)) 9) t18
 
 abbrev pub t22 : List Entry
-t22 = put 14 (msleft U16 (tyRef erased mut (tyInt w16))) (put 12 (msleft U16 (tyRef erased mut (tyInt w16))) (put 10 (msleft U16 (tyRef erased mut (tyInt w16))) (put 0 (whole
-    (Declared.row the-type)) t19)))
+t22 = put 14 (msleft U16 (tyRef erased mut (tyInt w16)))
+    (put 12 (msleft U16 (tyRef erased mut (tyInt w16))) (put 10 (msleft U16 (tyRef erased mut (tyInt w16))) (put 0 (whole (Declared.row the-type)) t19)))
 
 abbrev pub t23 : List Entry
 t23 = put 5 (msleft U16 (tyRef erased mut (tyInt w16))) t18
@@ -454,11 +362,26 @@ T40 = record { locals = _++_ t29 t24; slots = [] }
 abbrev pub T42 : Cx
 T42 = record { locals = _++_ t30 t1; slots = [] }
 
-abbrev pub T44 : Cx
-T44 = record { locals = _++_ t2 t1; slots = [] }
-
 abbrev pub O0 : Outs
 O0 = record { next = none; exits = []; returns = some T1 }
+
+abbrev a0 : ArgsT ps·0 (T25 .locals)
+a0 = (
+  record { pos = 10; ty = tyRef erased mut (tyInt w16); ref = λ x. x },
+  (
+    record { pos = 12; ty = tyRef erased mut (tyInt w16); ref = λ x. x },
+    (
+      record { pos = 14; ty = tyRef erased mut (tyInt w16); ref = λ x. x },
+      (
+        record { pos = 19; ty = tyRef erased imm Record-pointed; ref = λ x. x },
+        (
+          record { pos = 6; ty = tyRef (named 3) imm (tyInt w16); ref = λ x. x },
+          (record { pos = 21; ty = tyRef erased mut (tyInt w16); ref = λ x. x }, tt),
+        ),
+      ),
+    ),
+  ),
+)
 
 module _ (claims· : Claims) where
   abbrev s0 : (bs : List ℕ) → Mo T0 → Mo T2
@@ -483,8 +406,8 @@ module _ (claims· : Claims) where
   s9 = λ bs. k-sl-relend U16 T9 3 13 2 7 (tyRef (named 2) mut (tyInt w16)) (tyRef erased mut (tyInt w16)) off λ x. x
 
   abbrev s10 : (bs : List ℕ) → Asks T11 T12
-  s10 = λ bs. k-sl-aggregate U16 (asMut U16) T11 13 14 7 (tyRef erased mut (tyInt w16)) (tyRef erased mut (tyInt w16)) (λ x. x) (oFld 3 (field 1 ∷ []) (tyInt w64) 8 λ v. lenV (v
-      .0))
+  s10 = λ bs. k-sl-aggregate U16 (asMut U16) T11 13 14 7 (tyRef erased mut (tyInt w16)) (tyRef erased mut (tyInt w16)) (λ x. x)
+      (oFld 3 (field 1 ∷ []) (tyInt w64) 8 λ v. lenV (v .0))
 
   abbrev s11 : (bs : List ℕ) → Mo T12 → Mo T13
   s11 = λ bs. n-addr T12 (hd 0 (tl (tl (tl (tl (tl (tl (tl (tl bs))))))))) 15
@@ -502,22 +425,15 @@ module _ (claims· : Claims) where
   s16 = λ bs. k-arr-shared Record-row T16 8 256 8 λ x. x
 
   abbrev s17 : (bs : List ℕ) → Both T18 T19
-  s17 = λ bs. k-shr-part Record-row T18 8 16 18 8 (arr-shr Record-row 256 8) (tyRef erased imm Record-pointed) alive (bySize 24) (λ x. x) (λ x. record {
-    ptr = (
-      hd 0 (tl (tl (tl (tl
-          (tl (tl (tl (tl bs)))))))),
-      0,
-    );
-    name = x .0;
-    now = x .1;
-  }) (λ x. x) (λ u. 0) λ u. u .1 .1 .1 .1 .1 .0
+  s17 = λ bs. k-shr-part Record-row T18 8 16 18 8 (arr-shr Record-row 256 8) (tyRef erased imm Record-pointed) alive (bySize 24) (λ x. x)
+      (λ x. record { ptr = (hd 0 (tl (tl (tl (tl (tl (tl (tl (tl bs)))))))), 0); name = x .0; now = x .1 }) (λ x. x) (λ u. 0) λ u. u .1 .1 .1 .1 .1 .0
 
   abbrev s18 : (bs : List ℕ) → Mo T19 → Mo T20
   s18 = λ bs. n-room T19 16 tyPtr
 
   abbrev s19 : (bs : List ℕ) → Asks T20 T21
-  s19 = λ bs. k-sl-aggregate Record-row (asShr Record-row) T20 18 19 8 (tyRef erased imm Record-pointed) (tyRef erased imm Record-pointed) (λ x. x) (oAt 17 (tyInt w64) (valS (sInt
-      w64)))
+  s19 = λ bs. k-sl-aggregate Record-row (asShr Record-row) T20 18 19 8 (tyRef erased imm Record-pointed) (tyRef erased imm Record-pointed) (λ x. x)
+      (oAt 17 (tyInt w64) (valS (sInt w64)))
 
   abbrev s20 : (bs : List ℕ) → Mo T21 → Mo T22
   s20 = λ bs. n-room T21 17 (tyInt w64)
@@ -526,33 +442,12 @@ module _ (claims· : Claims) where
   s22 = λ bs. k-sl-relend U16 T22 7 20 4 9 (tyRef (named 4) mut (tyInt w16)) (tyRef erased mut (tyInt w16)) off λ x. x
 
   abbrev s23 : (bs : List ℕ) → Asks T24 T25
-  s23 = λ bs. k-sl-aggregate U16 (asMut U16) T24 20 21 9 (tyRef erased mut (tyInt w16)) (tyRef erased mut (tyInt w16)) (λ x. x) (oFld 7 (field 1 ∷ []) (tyInt w64) 8 λ v. lenV (v
-      .0))
+  s23 = λ bs. k-sl-aggregate U16 (asMut U16) T24 20 21 9 (tyRef erased mut (tyInt w16)) (tyRef erased mut (tyInt w16)) (λ x. x)
+      (oFld 7 (field 1 ∷ []) (tyInt w64) 8 λ v. lenV (v .0))
 
   abbrev s24 : (bs : List ℕ) → Both T25 T26
-  s24 = λ bs. callB ps·0 r·0 (claims· .0) (claims· .1) T25 (
-    record { pos = 10; ty = tyRef erased mut (tyInt w16); ref = λ x. x },
-    (
-      record {
-        pos = 12;
-        ty = tyRef erased mut (tyInt
-            w16);
-        ref = λ x. x;
-      },
-      (
-        record { pos = 14; ty = tyRef erased mut (tyInt w16); ref = λ x. x },
-        (
-          record { pos = 19; ty = tyRef erased imm Record-pointed; ref = λ x. x },
-          (
-            record
-                { pos = 6; ty = tyRef (named 3) imm (tyInt w16); ref = λ x. x },
-            (record { pos = 21; ty = tyRef erased mut (tyInt w16); ref = λ x. x }, tt),
-          ),
-        ),
-      ),
-    ),
-  ) 0 (5 ∷ 6 ∷ 7 ∷ 8 ∷ 3 ∷ 9 ∷
-      []) (tyEnum (98 ∷ 97 ∷ 116 ∷ 99 ∷ 104 ∷ 58 ∷ 58 ∷ 67 ∷ 97 ∷ 108 ∷ 108 ∷ 101 ∷ 100 ∷ []) (ttcons (tcons (tyInt w16) tnil) (ttcons (tcons (tyInt w64) tnil) ttnil)))
+  s24 = λ bs. callB ps·0 r·0 (claims· .0) (claims· .1) T25 a0 0 (5 ∷ 6 ∷ 7 ∷ 8 ∷ 3 ∷ 9 ∷ [])
+      (tyEnum (98 ∷ 97 ∷ 116 ∷ 99 ∷ 104 ∷ 58 ∷ 58 ∷ 67 ∷ 97 ∷ 108 ∷ 108 ∷ 101 ∷ 100 ∷ []) (ttcons (tcons (tyInt w16) tnil) (ttcons (tcons (tyInt w64) tnil) ttnil)))
 
   abbrev s25 : (bs : List ℕ) → Mo T26 → Mo T27
   s25 = λ bs. n-room T26 19 (sliceTy (tyRef erased imm Record-pointed))
@@ -575,7 +470,7 @@ module _ (claims· : Claims) where
   abbrev s40 : (bs : List ℕ) → Both T40 T42
   s40 = λ bs. k-back-sl U16 T40 21 7 4 9 (tyRef (named 4) mut (tyInt w16)) (tyRef erased mut (tyInt w16)) off (λ x. x) λ x. x
 
-  abbrev s42 : (bs : List ℕ) → Mo T42 → Mo T44
+  abbrev s42 : (bs : List ℕ) → Mo T42 → Mo T1
   s42 = λ bs. n-room T42 5 (tyInt w64)
 
   module _ (Pre· : (κs : Lfts 5) → Dens κs ps → Type 0) (Post· : (κs : Lfts 5) → (a : Dens κs ps) → Plain 5 ps r κs) where
@@ -585,11 +480,11 @@ module _ (claims· : Claims) where
           (WpFn 𝓤 H (𝓣 .C) (𝓣 .Λ) (fnOf 5 ps r xs m hs body)) (plainOf 𝓤 H A 5 ps r Pre· Post·)
 
     module _ where
-      abbrev at0 : (bs : List ℕ) → TF T44 O0
+      abbrev at0 : (bs : List ℕ) → TF T1 O0
       at0 = λ bs. atRet O0
 
       abbrev at1 : (bs : List ℕ) → TF T42 O0
-      at1 = λ bs. λ Ψ. pass T42 T44 (s42 bs) (at0 bs Ψ)
+      at1 = λ bs. λ Ψ. pass T42 T1 (s42 bs) (at0 bs Ψ)
 
       abbrev at2 : (bs : List ℕ) → TF T42 O0
       at2 = λ bs. λ Ψ. at1 bs Ψ
@@ -768,8 +663,8 @@ module _ (claims· : Claims) where
         g19 = put 7 (mslice-owed U16 (tyRef (named 4) mut (tyInt w16)) 4 9 K4) g14
 
         abbrev g22 : List Entry
-        g22 = put 14 (msleft U16 (tyRef erased mut (tyInt w16))) (put 12 (msleft U16 (tyRef erased mut (tyInt w16))) (put 10 (msleft U16 (tyRef erased mut (tyInt w16))) (put 0
-            (whole (Declared.row the-type)) g19)))
+        g22 = put 14 (msleft U16 (tyRef erased mut (tyInt w16)))
+            (put 12 (msleft U16 (tyRef erased mut (tyInt w16))) (put 10 (msleft U16 (tyRef erased mut (tyInt w16))) (put 0 (whole (Declared.row the-type)) g19)))
 
         abbrev g25 : List Entry
         g25 = put 10 (any-gone (sliceTy (tyRef erased mut (tyInt w16)))) (put 1 (mslice U16 (tyRef (named 0) mut (tyInt w16)) 0) g22)
@@ -918,9 +813,6 @@ module _ (claims· : Claims) where
         abbrev G43 : Cx
         G43 = record { locals = _++_ t30 t1; slots = K0 ∷ K1 ∷ K2 ∷ K3 ∷ K4 ∷ off ∷ off ∷ off ∷ off ∷ off ∷ [] }
 
-        abbrev G44 : Cx
-        G44 = record { locals = _++_ t2 t1; slots = K0 ∷ K1 ∷ K2 ∷ K3 ∷ K4 ∷ off ∷ off ∷ off ∷ off ∷ off ∷ [] }
-
         abbrev Δ0 : Outs
         Δ0 = record { next = none; exits = []; returns = some G1 }
 
@@ -929,18 +821,19 @@ module _ (claims· : Claims) where
             abbrev E : Env 𝓤 H
             E = EnvOf 𝓤 H (tyR r ∷ (tysP ps xs)) bs
 
-            d0 : Typed 𝓤 H A 𝓣 E G44 b15 Δ0 (at0 bs)
+            d0 : Typed 𝓤 H A 𝓣 E G1 b15 Δ0 (at0 bs)
             d0 = t-return 𝓤 H A W 𝓣 E Δ0 tt
 
             d1 : Typed 𝓤 H A 𝓣 E G43 b15 Δ0 (at1 bs)
-            d1 = g-pre 𝓤 H A W 𝓣 E G43 G44 b15 Δ0 (pass T42 T44 (s42 bs)) (at0 bs) (g-room 𝓤 H A W E G43 5 (tyInt w64) (room-sc 𝓤 H A W (sInt w64))) d0
+            d1 = g-pre 𝓤 H A W 𝓣 E G43 G1 b15 Δ0 (pass T42 T1 (s42 bs)) (at0 bs) (g-room 𝓤 H A W E G43 5 (tyInt w64) (room-sc 𝓤 H A W (sInt w64))) d0
 
             d2 : Typed 𝓤 H A 𝓣 E G42 b15 Δ0 (at2 bs)
             d2 = g-pre 𝓤 H A W 𝓣 E G42 G43 b15 Δ0 (λ Ψ. Ψ) (at1 bs) (g-forget 𝓤 H A W E G42 9 dead refl) d1
 
             d3 : Typed 𝓤 H A 𝓣 E G41 b15 Δ0 (at3 bs)
-            d3 = g-pre 𝓤 H A W 𝓣 E G41 G42 b15 Δ0 (both (s40 bs)) (at2 bs) (g-back-sl 𝓤 H A W E U16 G41 21 7 4 9 (tyRef (named 4) mut (tyInt w16)) (tyRef erased mut (tyInt w16)) K4
-                (λ x. x) (λ x. x) (as-is 𝓤 H A (msleft U16 (tyRef erased mut (tyInt w16)))) (as-is 𝓤 H A (mslice-owed U16 (tyRef (named 4) mut (tyInt w16)) 4 9 K4)) refl refl) d2
+            d3 = g-pre 𝓤 H A W 𝓣 E G41 G42 b15 Δ0 (both (s40 bs)) (at2 bs)
+                (g-back-sl 𝓤 H A W E U16 G41 21 7 4 9 (tyRef (named 4) mut (tyInt w16)) (tyRef erased mut (tyInt w16)) K4 (λ x. x) (λ x. x)
+                (as-is 𝓤 H A (msleft U16 (tyRef erased mut (tyInt w16)))) (as-is 𝓤 H A (mslice-owed U16 (tyRef (named 4) mut (tyInt w16)) 4 9 K4)) refl refl) d2
 
             d4 : Typed 𝓤 H A 𝓣 E G40 b15 Δ0 (at4 bs)
             d4 = g-pre 𝓤 H A W 𝓣 E G40 G41 b15 Δ0 (λ Ψ. Ψ) (at3 bs) (g-end 𝓤 H A W E G40 9 refl) d3
@@ -952,8 +845,8 @@ module _ (claims· : Claims) where
             d6 = g-pre 𝓤 H A W 𝓣 E G38 G39 b15 Δ0 (λ Ψ. Ψ) (at5 bs) (g-forget 𝓤 H A W E G38 8 dead refl) d5
 
             d7 : Typed 𝓤 H A 𝓣 E G37 b15 Δ0 (at7 bs)
-            d7 = g-pre 𝓤 H A W 𝓣 E G37 G38 b15 Δ0 (pass T35 T38 (s36 bs)) (at6 bs) (g-back-arr-shr 𝓤 H A W E Record-row G37 8 256 8 (λ x. x) (as-is 𝓤 H A (arr-shr Record-row 256 8))
-                refl) d6
+            d7 = g-pre 𝓤 H A W 𝓣 E G37 G38 b15 Δ0 (pass T35 T38 (s36 bs)) (at6 bs)
+                (g-back-arr-shr 𝓤 H A W E Record-row G37 8 256 8 (λ x. x) (as-is 𝓤 H A (arr-shr Record-row 256 8)) refl) d6
 
             d8 : Typed 𝓤 H A 𝓣 E G36 b15 Δ0 (at8 bs)
             d8 = g-pre 𝓤 H A W 𝓣 E G36 G37 b15 Δ0 (λ Ψ. Ψ) (at7 bs) (g-end 𝓤 H A W E G36 8 refl) d7
@@ -962,8 +855,9 @@ module _ (claims· : Claims) where
             d9 = g-pre 𝓤 H A W 𝓣 E G35 G36 b15 Δ0 (λ Ψ. Ψ) (at8 bs) (g-forget 𝓤 H A W E G35 7 dead refl) d8
 
             d10 : Typed 𝓤 H A 𝓣 E G34 b15 Δ0 (at10 bs)
-            d10 = g-pre 𝓤 H A W 𝓣 E G34 G35 b15 Δ0 (both (s33 bs)) (at9 bs) (g-back-sl 𝓤 H A W E U16 G34 14 3 2 7 (tyRef (named 2) mut (tyInt w16)) (tyRef erased mut (tyInt w16)) K2
-                (λ x. x) (λ x. x) (as-is 𝓤 H A (msleft U16 (tyRef erased mut (tyInt w16)))) (as-is 𝓤 H A (mslice-owed U16 (tyRef (named 2) mut (tyInt w16)) 2 7 K2)) refl refl) d9
+            d10 = g-pre 𝓤 H A W 𝓣 E G34 G35 b15 Δ0 (both (s33 bs)) (at9 bs)
+                (g-back-sl 𝓤 H A W E U16 G34 14 3 2 7 (tyRef (named 2) mut (tyInt w16)) (tyRef erased mut (tyInt w16)) K2 (λ x. x) (λ x. x)
+                (as-is 𝓤 H A (msleft U16 (tyRef erased mut (tyInt w16)))) (as-is 𝓤 H A (mslice-owed U16 (tyRef (named 2) mut (tyInt w16)) 2 7 K2)) refl refl) d9
 
             d11 : Typed 𝓤 H A 𝓣 E G33 b15 Δ0 (at11 bs)
             d11 = g-pre 𝓤 H A W 𝓣 E G33 G34 b15 Δ0 (λ Ψ. Ψ) (at10 bs) (g-end 𝓤 H A W E G33 7 refl) d10
@@ -972,8 +866,9 @@ module _ (claims· : Claims) where
             d12 = g-pre 𝓤 H A W 𝓣 E G32 G33 b15 Δ0 (λ Ψ. Ψ) (at11 bs) (g-forget 𝓤 H A W E G32 6 dead refl) d11
 
             d13 : Typed 𝓤 H A 𝓣 E G31 b15 Δ0 (at13 bs)
-            d13 = g-pre 𝓤 H A W 𝓣 E G31 G32 b15 Δ0 (both (s30 bs)) (at12 bs) (g-back-sl 𝓤 H A W E U16 G31 12 2 1 6 (tyRef (named 1) mut (tyInt w16)) (tyRef erased mut (tyInt w16)) K1
-                (λ x. x) (λ x. x) (as-is 𝓤 H A (msleft U16 (tyRef erased mut (tyInt w16)))) (as-is 𝓤 H A (mslice-owed U16 (tyRef (named 1) mut (tyInt w16)) 1 6 K1)) refl refl) d12
+            d13 = g-pre 𝓤 H A W 𝓣 E G31 G32 b15 Δ0 (both (s30 bs)) (at12 bs)
+                (g-back-sl 𝓤 H A W E U16 G31 12 2 1 6 (tyRef (named 1) mut (tyInt w16)) (tyRef erased mut (tyInt w16)) K1 (λ x. x) (λ x. x)
+                (as-is 𝓤 H A (msleft U16 (tyRef erased mut (tyInt w16)))) (as-is 𝓤 H A (mslice-owed U16 (tyRef (named 1) mut (tyInt w16)) 1 6 K1)) refl refl) d12
 
             d14 : Typed 𝓤 H A 𝓣 E G30 b15 Δ0 (at14 bs)
             d14 = g-pre 𝓤 H A W 𝓣 E G30 G31 b15 Δ0 (λ Ψ. Ψ) (at13 bs) (g-end 𝓤 H A W E G30 6 refl) d13
@@ -982,425 +877,184 @@ module _ (claims· : Claims) where
             d15 = g-pre 𝓤 H A W 𝓣 E G29 G30 b15 Δ0 (λ Ψ. Ψ) (at14 bs) (g-forget 𝓤 H A W E G29 5 dead refl) d14
 
             d16 : Typed 𝓤 H A 𝓣 E G28 b15 Δ0 (at16 bs)
-            d16 = g-pre 𝓤 H A W 𝓣 E G28 G29 b15 Δ0 (both (s27 bs)) (at15 bs) (g-back-sl 𝓤 H A W E U16 G28 10 1 0 5 (tyRef (named 0) mut (tyInt w16)) (tyRef erased mut (tyInt w16)) K0
-                (λ x. x) (λ x. x) (as-is 𝓤 H A (msleft U16 (tyRef erased mut (tyInt w16)))) (as-is 𝓤 H A (mslice-owed U16 (tyRef (named 0) mut (tyInt w16)) 0 5 K0)) refl refl) d15
+            d16 = g-pre 𝓤 H A W 𝓣 E G28 G29 b15 Δ0 (both (s27 bs)) (at15 bs)
+                (g-back-sl 𝓤 H A W E U16 G28 10 1 0 5 (tyRef (named 0) mut (tyInt w16)) (tyRef erased mut (tyInt w16)) K0 (λ x. x) (λ x. x)
+                (as-is 𝓤 H A (msleft U16 (tyRef erased mut (tyInt w16)))) (as-is 𝓤 H A (mslice-owed U16 (tyRef (named 0) mut (tyInt w16)) 0 5 K0)) refl refl) d15
 
             d17 : Typed 𝓤 H A 𝓣 E G27 b15 Δ0 (at17 bs)
             d17 = g-pre 𝓤 H A W 𝓣 E G27 G28 b15 Δ0 (λ Ψ. Ψ) (at16 bs) (g-end 𝓤 H A W E G27 5 refl) d16
 
             d18 : Typed 𝓤 H A 𝓣 E G26 b15 Δ0 (at18 bs)
-            d18 = g-pre 𝓤 H A W 𝓣 E G26 G27 b15 Δ0 (pass T26 T27 (s25 bs)) (at17 bs) (g-room 𝓤 H A W E G26 19 (sliceTy (tyRef erased imm Record-pointed)) (room-sslice 𝓤 H A W
-                Record-row (tyRef erased imm Record-pointed) 8)) d17
+            d18 = g-pre 𝓤 H A W 𝓣 E G26 G27 b15 Δ0 (pass T26 T27 (s25 bs)) (at17 bs)
+                (g-room 𝓤 H A W E G26 19 (sliceTy (tyRef erased imm Record-pointed)) (room-sslice 𝓤 H A W Record-row (tyRef erased imm Record-pointed) 8)) d17
 
             d19 : Typed 𝓤 H A 𝓣 E G25 b16 Δ0 (at19 bs)
-            d19 = s-seq 𝓤 H A W 𝓣 E G25 G26 b14 b15 Δ0 (both (s24 bs)) (at18 bs) (t-call-plain 𝓤 H A W 𝓣 6 ps·0 r·0 (claims· .0) (claims· .1) "batch::batch" known E (λ pos β. β) G25 (
+            d19 = s-seq 𝓤 H A W 𝓣 E G25 G26 _ _ Δ0 (both (s24 bs)) (at18 bs) (t-call-plain 𝓤 H A W 𝓣 6 ps·0 r·0 (claims· .0) (claims· .1) "batch::batch" known E (λ pos β. β) G25 (
               record { pos = 10; ty = tyRef erased mut (tyInt w16); ref = λ x. x },
               (
                 record { pos = 12; ty = tyRef erased mut (tyInt w16); ref = λ x. x },
                 (
-                  record {
-                    pos = 14;
-                    ty =
-                        tyRef erased mut (tyInt w16);
-                    ref = λ x. x;
-                  },
+                  record { pos = 14; ty = tyRef erased mut (tyInt w16); ref = λ x. x },
                   (
                     record { pos = 19; ty = tyRef erased imm Record-pointed; ref = λ x. x },
                     (
-                      record {
-                        pos = 6;
-                        ty = tyRef (named 3) imm
-                            (tyInt w16);
-                        ref = λ x. x;
-                      },
+                      record { pos = 6; ty = tyRef (named 3) imm (tyInt w16); ref = λ x. x },
                       (record { pos = 21; ty = tyRef erased mut (tyInt w16); ref = λ x. x }, tt),
                     ),
                   ),
                 ),
               ),
-            ) 0 (5 ∷ 6 ∷ 7 ∷ 8 ∷ 3 ∷ 9 ∷ []) (sub-id 𝓤 H A W (G25
-                .slots)) (
+            ) 0 (5 ∷ 6 ∷ 7 ∷ 8 ∷ 3 ∷ 9 ∷ [])
+                (sub-id 𝓤 H A W (G25 .slots)) (
                   as-is 𝓤 H A (mslice U16 (tyRef erased mut (tyInt w16)) 5),
                   reads-mslice 𝓤 H A W U16 (tyRef erased mut (tyInt w16)) 5,
                   refl,
                   (
-                    as-is 𝓤 H A (mslice U16 (tyRef
-                        erased mut (tyInt w16)) 6),
+                    as-is 𝓤 H A (mslice U16 (tyRef erased mut (tyInt w16)) 6),
                     reads-mslice 𝓤 H A W U16 (tyRef erased mut (tyInt w16)) 6,
                     refl,
                     (
                       as-is 𝓤 H A (mslice U16 (tyRef erased mut (tyInt w16)) 7),
-                      reads-mslice
-                          𝓤 H A W U16 (tyRef erased mut (tyInt w16)) 7,
+                      reads-mslice 𝓤 H A W U16 (tyRef erased mut (tyInt w16)) 7,
                       refl,
                       (
                         spares-sslice 𝓤 H A W Record-row (tyRef erased imm Record-pointed) 8,
-                        reads-sslice 𝓤 H A W Record-row (tyRef
-                            erased imm Record-pointed) 8,
+                        reads-sslice 𝓤 H A W Record-row
+                            (tyRef erased imm Record-pointed) 8,
                         refl,
                         (
                           spares-sslice 𝓤 H A W U16 (tyRef (named 3) imm (tyInt w16)) 3,
-                          reads-sslice 𝓤 H A W U16 (tyRef (named 3) imm (tyInt w16)) 3,
+                          reads-sslice 𝓤 H A W U16 (tyRef (named 3) imm (tyInt w16))
+                              3,
                           refl,
-                          (as-is 𝓤 H A (mslice U16 (tyRef erased mut (tyInt w16)) 9), reads-mslice 𝓤 H A W U16 (tyRef erased mut (tyInt w16)) 9, refl, tt),
-                        ),
-                      ),
-                    ),
-                  ),
-                ) (room-gone 𝓤 H A (tyEnum
-                (98 ∷ 97 ∷ 116 ∷ 99 ∷ 104 ∷ 58 ∷ 58 ∷ 67 ∷ 97 ∷ 108 ∷ 108 ∷ 101 ∷ 100 ∷ []) (ttcons (tcons (tyInt w16) tnil) (ttcons (tcons (tyInt w64) tnil) ttnil)))) (
-                  tt,
-                  (
-                    tt,
-                    (
-                      tt,
-                      (tt, (tt, (tt, tt))),
-                    ),
-                  ),
-                ) refl) d18
-
-            d20 : Typed 𝓤 H A 𝓣 E G24 b17 Δ0 (at20 bs)
-            d20 = s-seq 𝓤 H A W 𝓣 E G24 G25 b13 b16 Δ0 (ask (s23 bs)) (at19 bs) (t-sl-aggregate 𝓤 H A W E U16 𝓣 (asMut U16) G24 20 21 9 (tyRef erased mut (tyInt w16)) (tyRef erased
-                mut (tyInt w16)) (λ x. x) (oFld 7 (field 1 ∷ []) (tyInt w64) 8 λ v. lenV (v .0)) (as-is 𝓤 H A (msptr U16 (tyRef erased mut (tyInt w16)) 9)) (room-gone 𝓤 H A (sliceTy
-                (tyRef erased mut (tyInt w16)))) (reads-owed-len 𝓤 H A W U16 (tyRef (named 4) mut (tyInt w16)) 4 9 K4 8 refl, refl) refl refl λ b o k. tt) d19
-
-            d21 : Typed 𝓤 H A 𝓣 E G23 b18 Δ0 (at21 bs)
-            d21 = s-seq 𝓤 H A W 𝓣 E G23 G24 b12 b17 Δ0 (give (s22 bs)) (at20 bs) (t-sl-relend 𝓤 H A W E U16 𝓣 G23 7 20 4 9 (tyRef (named 4) mut (tyInt w16)) (tyRef erased mut (tyInt
-                w16)) K4 0 (λ x. x) (as-is 𝓤 H A (mslice U16 (tyRef (named 4) mut (tyInt w16)) 4)) (room-gone 𝓤 H A (tyRef erased mut (tyInt w16))) refl tt refl refl refl λ b o. tt)
-                d20
-
-            d22 : Typed 𝓤 H A 𝓣 E G22 b18 Δ0 (at22 bs)
-            d22 = g-pre 𝓤 H A W 𝓣 E G22 G23 b18 Δ0 (λ Ψ. Ψ) (at21 bs) (g-begin 𝓤 H A W E G22 9 (
-              tt,
-              (
-                (tt, tt),
-                (
-                  (tt, tt),
-                  (
-                    (tt, tt),
-                    (
-                      tt,
-                      (
-                        tt,
-                        (
-                          tt,
                           (
+                            as-is 𝓤 H A (mslice U16 (tyRef erased mut (tyInt w16)) 9),
+                            reads-mslice 𝓤 H A W U16 (tyRef erased mut (tyInt w16))
+                                9,
+                            refl,
                             tt,
-                            (
-                              tt,
-                              (
-                                tt,
-                                (
-                                  tt,
-                                  (
-                                    tt,
-                                    (
-                                      tt,
-                                      (
-                                        tt,
-                                        (tt, (tt, (tt, (tt, (tt, (tt, (tt, (tt, tt)))))))),
-                                      ),
-                                    ),
-                                  ),
-                                ),
-                              ),
-                            ),
                           ),
                         ),
                       ),
                     ),
                   ),
-                ),
-              ),
-            )) d21
+                ) (room-gone 𝓤 H A (tyEnum (98 ∷ 97 ∷ 116 ∷ 99 ∷ 104 ∷ 58 ∷ 58 ∷ 67 ∷ 97 ∷ 108 ∷ 108 ∷ 101 ∷ 100 ∷ [])
+                (ttcons (tcons (tyInt w16) tnil) (ttcons (tcons (tyInt w64) tnil) ttnil)))) (units 6 tt) refl) d18
+
+            d20 : Typed 𝓤 H A 𝓣 E G24 b17 Δ0 (at20 bs)
+            d20 = s-seq 𝓤 H A W 𝓣 E G24 G25 _ _ Δ0 (ask (s23 bs)) (at19 bs)
+                (t-sl-aggregate 𝓤 H A W E U16 𝓣 (asMut U16) G24 20 21 9 (tyRef erased mut (tyInt w16)) (tyRef erased mut (tyInt w16)) (λ x. x)
+                (oFld 7 (field 1 ∷ []) (tyInt w64) 8 λ v. lenV (v .0)) (as-is 𝓤 H A (msptr U16 (tyRef erased mut (tyInt w16)) 9))
+                (room-gone 𝓤 H A (sliceTy (tyRef erased mut (tyInt w16)))) (reads-owed-len 𝓤 H A W U16 (tyRef (named 4) mut (tyInt w16)) 4 9 K4 8 refl, refl) refl refl λ b o
+                k. tt) d19
+
+            d21 : Typed 𝓤 H A 𝓣 E G23 b18 Δ0 (at21 bs)
+            d21 = s-seq 𝓤 H A W 𝓣 E G23 G24 _ _ Δ0 (give (s22 bs)) (at20 bs)
+                (t-sl-relend 𝓤 H A W E U16 𝓣 G23 7 20 4 9 (tyRef (named 4) mut (tyInt w16)) (tyRef erased mut (tyInt w16)) K4 0 (λ x. x)
+                (as-is 𝓤 H A (mslice U16 (tyRef (named 4) mut (tyInt w16)) 4)) (room-gone 𝓤 H A (tyRef erased mut (tyInt w16))) refl tt refl refl refl λ b o. tt) d20
+
+            d22 : Typed 𝓤 H A 𝓣 E G22 b18 Δ0 (at22 bs)
+            d22 = g-pre 𝓤 H A W 𝓣 E G22 G23 b18 Δ0 (λ Ψ. Ψ) (at21 bs) (g-begin 𝓤 H A W E G22 9 (tt, ((tt, tt), ((tt, tt), ((tt, tt), units 18 tt))))) d21
 
             d23 : Typed 𝓤 H A 𝓣 E G21 b18 Δ0 (at23 bs)
             d23 = g-pre 𝓤 H A W 𝓣 E G21 G22 b18 Δ0 (pass T21 T22 (s20 bs)) (at22 bs) (g-room 𝓤 H A W E G21 17 (tyInt w64) (room-sc 𝓤 H A W (sInt w64))) d22
 
             d24 : Typed 𝓤 H A 𝓣 E G20 b19 Δ0 (at24 bs)
-            d24 = s-seq 𝓤 H A W 𝓣 E G20 G21 b11 b18 Δ0 (ask (s19 bs)) (at23 bs) (t-sl-aggregate 𝓤 H A W E Record-row 𝓣 (asShr Record-row) G20 18 19 8 (tyRef erased imm
-                Record-pointed) (tyRef erased imm Record-pointed) (λ x. x) (oAt 17 (tyInt w64) (valS (sInt w64))) (as-is 𝓤 H A (ssptr Record-row (tyRef erased imm Record-pointed) 8))
+            d24 = s-seq 𝓤 H A W 𝓣 E G20 G21 _ _ Δ0 (ask (s19 bs)) (at23 bs)
+                (t-sl-aggregate 𝓤 H A W E Record-row 𝓣 (asShr Record-row) G20 18 19 8 (tyRef erased imm Record-pointed) (tyRef erased imm Record-pointed) (λ x. x)
+                (oAt 17 (tyInt w64) (valS (sInt w64))) (as-is 𝓤 H A (ssptr Record-row (tyRef erased imm Record-pointed) 8))
                 (room-gone 𝓤 H A (sliceTy (tyRef erased imm Record-pointed))) (reads-sc 𝓤 H A W (sInt w64), refl) refl refl λ b o k. tt) d23
 
             d25 : Typed 𝓤 H A 𝓣 E G19 b19 Δ0 (at25 bs)
             d25 = g-pre 𝓤 H A W 𝓣 E G19 G20 b19 Δ0 (pass T19 T20 (s18 bs)) (at24 bs) (g-room 𝓤 H A W E G19 16 tyPtr (room-sc 𝓤 H A W sPtr)) d24
 
             d26 : Typed 𝓤 H A 𝓣 E G18 b20 Δ0 (at26 bs)
-            d26 = s-seq 𝓤 H A W 𝓣 E G18 G19 b10 b19 Δ0 (both (s17 bs)) (at25 bs) (t-shr-part 𝓤 H A W E Record-row 𝓣 (halved 𝓤 H A W (cStruct Record-type Record-laws Record-copy)) G18
-                8 16 18 8 (arr-shr Record-row 256 8) Record-mir (tyRef erased imm Record-pointed) alive (bySize 24) (λ x. x) (λ x. record {
-                  ptr = (
-                    hd 0 (tl (tl (tl (tl (tl (tl (tl
-                        (tl bs)))))))),
-                    0,
-                  );
-                  name = x .0;
-                  now = x .1;
-                }) (λ x. x) (λ u. 0) (λ u. u .1 .1 .1 .1 .1 .0) (λ i o. at-mul o 24 i) (as-is 𝓤 H A (arr-shr Record-row 256 8))
-                (lends-arr-shr 𝓤 H A W E Record-row 256 8 (hd 0 (tl (tl (tl (tl (tl (tl (tl (tl bs)))))))))) (as-is 𝓤 H A (sc-here sPtr)) (room-gone 𝓤 H A (tyRef erased imm
-                Record-pointed)) refl tt refl refl λ b o. tt) d25
+            d26 = s-seq 𝓤 H A W 𝓣 E G18 G19 _ _ Δ0 (both (s17 bs)) (at25 bs)
+                (t-shr-part 𝓤 H A W E Record-row 𝓣 (halved 𝓤 H A W (cStruct Record-type Record-laws Record-copy)) G18 8 16 18 8 (arr-shr Record-row 256 8) Record-mir
+                (tyRef erased imm Record-pointed) alive (bySize 24) (λ x. x)
+                (λ x. record { ptr = (hd 0 (tl (tl (tl (tl (tl (tl (tl (tl bs)))))))), 0); name = x .0; now = x .1 }) (λ x. x) (λ u. 0) (λ u. u .1 .1 .1 .1 .1 .0)
+                (λ i o. at-mul o 24 i) (as-is 𝓤 H A (arr-shr Record-row 256 8)) (lends-arr-shr 𝓤 H A W E Record-row 256 8 (hd 0 (tl (tl (tl (tl (tl (tl (tl (tl bs))))))))))
+                (as-is 𝓤 H A (sc-here sPtr)) (room-gone 𝓤 H A (tyRef erased imm Record-pointed)) refl tt refl refl λ b o. tt) d25
 
             d27 : Typed 𝓤 H A 𝓣 E G17 b20 Δ0 (at27 bs)
-            d27 = g-pre 𝓤 H A W 𝓣 E G17 G18 b20 Δ0 (give (s16 bs)) (at26 bs) (g-arr-share 𝓤 H A W E Record-row G17 8 256 8 (λ x. x) (as-is 𝓤 H A (arrF Record-row 256 0)) (
-              lit< tt,
-              lit< tt,
-            )) d26
+            d27 = g-pre 𝓤 H A W 𝓣 E G17 G18 b20 Δ0 (give (s16 bs)) (at26 bs)
+                (g-arr-share 𝓤 H A W E Record-row G17 8 256 8 (λ x. x) (as-is 𝓤 H A (arrF Record-row 256 0)) (lit< tt, lit< tt)) d26
 
             d28 : Typed 𝓤 H A 𝓣 E G16 b20 Δ0 (at28 bs)
-            d28 = g-pre 𝓤 H A W 𝓣 E G16 G17 b20 Δ0 (λ Ψ. Ψ) (at27 bs) (g-begin 𝓤 H A W E G16 8 (
-              tt,
-              (
-                (tt, tt),
-                (
-                  (tt, tt),
-                  (
-                    (tt, tt),
-                    (
-                      tt,
-                      (
-                        tt,
-                        (
-                          tt,
-                          (
-                            tt,
-                            (
-                              tt,
-                              (
-                                tt,
-                                (
-                                  tt,
-                                  (
-                                    tt,
-                                    (
-                                      tt,
-                                      (
-                                        tt,
-                                        (tt, (tt, (tt, (tt, (tt, (tt, (tt, (tt, tt)))))))),
-                                      ),
-                                    ),
-                                  ),
-                                ),
-                              ),
-                            ),
-                          ),
-                        ),
-                      ),
-                    ),
-                  ),
-                ),
-              ),
-            )) d27
+            d28 = g-pre 𝓤 H A W 𝓣 E G16 G17 b20 Δ0 (λ Ψ. Ψ) (at27 bs) (g-begin 𝓤 H A W E G16 8 (tt, ((tt, tt), ((tt, tt), ((tt, tt), units 18 tt))))) d27
 
             d29 : Typed 𝓤 H A 𝓣 E G15 b21 Δ0 (at29 bs)
-            d29 = s-seq 𝓤 H A W 𝓣 E G15 G16 b9 b20 Δ0 (ask (s14 bs)) (at28 bs) (t-op2 𝓤 H A W E 𝓣 G15 (sub unsigned) (oAt 5 (tyInt w64) (valS (sInt w64))) (oInt w64 0) 17 (sc-here
-                (sInt w64)) (tyInt w64) (valS (sInt w64)) (sInt w64 .of) (reads-sc 𝓤 H A W (sInt w64), refl) tt (room-gone 𝓤 H A (tyInt w64)) (holds-sc 𝓤 H A W (sInt w64)) refl (λ u.
-                refl) λ u. tt) d28
+            d29 = s-seq 𝓤 H A W 𝓣 E G15 G16 _ _ Δ0 (ask (s14 bs)) (at28 bs)
+                (t-op2 𝓤 H A W E 𝓣 G15 (sub unsigned) (oAt 5 (tyInt w64) (valS (sInt w64))) (oInt w64 0) 17 (sc-here (sInt w64)) (tyInt w64) (valS (sInt w64)) (sInt w64 .of)
+                (reads-sc 𝓤 H A W (sInt w64), refl) tt (room-gone 𝓤 H A (tyInt w64)) (holds-sc 𝓤 H A W (sInt w64)) refl (λ u. refl) λ u. tt) d28
 
             d30 : Typed 𝓤 H A 𝓣 E G14 b21 Δ0 (at30 bs)
             d30 = g-pre 𝓤 H A W 𝓣 E G14 G15 b21 Δ0 (pass T14 T15 (s13 bs)) (at29 bs) (g-room 𝓤 H A W E G14 15 tyPtr (room-sc 𝓤 H A W sPtr)) d29
 
             d31 : Typed 𝓤 H A 𝓣 E G13 b22 Δ0 (at31 bs)
-            d31 = s-seq 𝓤 H A W 𝓣 E G13 G14 b8 b21 Δ0 (ask (s12 bs)) (at30 bs) (t-op2 𝓤 H A W E 𝓣 G13 offset (oAt 15 tyPtr (valS sPtr)) (oInt w64 0) 16 (sc-here sPtr) tyPtr (valS
-                sPtr) (sPtr .of) (reads-sc 𝓤 H A W sPtr, refl) tt (room-gone 𝓤 H A tyPtr) (holds-sc 𝓤 H A W sPtr) refl (λ u. refl) λ u. tt) d30
+            d31 = s-seq 𝓤 H A W 𝓣 E G13 G14 _ _ Δ0 (ask (s12 bs)) (at30 bs)
+                (t-op2 𝓤 H A W E 𝓣 G13 offset (oAt 15 tyPtr (valS sPtr)) (oInt w64 0) 16 (sc-here sPtr) tyPtr (valS sPtr) (sPtr .of) (reads-sc 𝓤 H A W sPtr, refl) tt
+                (room-gone 𝓤 H A tyPtr) (holds-sc 𝓤 H A W sPtr) refl (λ u. refl) λ u. tt) d30
 
             d32 : Typed 𝓤 H A 𝓣 E G12 b23 Δ0 (at32 bs)
-            d32 = s-seq 𝓤 H A W 𝓣 E G12 G13 b7 b22 Δ0 (pass T12 T13 (s11 bs)) (at31 bs) (t-addr 𝓤 H A W E 𝓣 G12 15 8 (room-gone 𝓤 H A tyPtr) refl) d31
+            d32 = s-seq 𝓤 H A W 𝓣 E G12 G13 _ _ Δ0 (pass T12 T13 (s11 bs)) (at31 bs) (t-addr 𝓤 H A W E 𝓣 G12 15 8 (room-gone 𝓤 H A tyPtr) refl) d31
 
             d33 : Typed 𝓤 H A 𝓣 E G11 b24 Δ0 (at33 bs)
-            d33 = s-seq 𝓤 H A W 𝓣 E G11 G12 b6 b23 Δ0 (ask (s10 bs)) (at32 bs) (t-sl-aggregate 𝓤 H A W E U16 𝓣 (asMut U16) G11 13 14 7 (tyRef erased mut (tyInt w16)) (tyRef erased
-                mut (tyInt w16)) (λ x. x) (oFld 3 (field 1 ∷ []) (tyInt w64) 8 λ v. lenV (v .0)) (as-is 𝓤 H A (msptr U16 (tyRef erased mut (tyInt w16)) 7)) (room-gone 𝓤 H A (sliceTy
-                (tyRef erased mut (tyInt w16)))) (reads-owed-len 𝓤 H A W U16 (tyRef (named 2) mut (tyInt w16)) 2 7 K2 8 refl, refl) refl refl λ b o k. tt) d32
+            d33 = s-seq 𝓤 H A W 𝓣 E G11 G12 _ _ Δ0 (ask (s10 bs)) (at32 bs)
+                (t-sl-aggregate 𝓤 H A W E U16 𝓣 (asMut U16) G11 13 14 7 (tyRef erased mut (tyInt w16)) (tyRef erased mut (tyInt w16)) (λ x. x)
+                (oFld 3 (field 1 ∷ []) (tyInt w64) 8 λ v. lenV (v .0)) (as-is 𝓤 H A (msptr U16 (tyRef erased mut (tyInt w16)) 7))
+                (room-gone 𝓤 H A (sliceTy (tyRef erased mut (tyInt w16)))) (reads-owed-len 𝓤 H A W U16 (tyRef (named 2) mut (tyInt w16)) 2 7 K2 8 refl, refl) refl refl λ b o
+                k. tt) d32
 
             d34 : Typed 𝓤 H A 𝓣 E G10 b25 Δ0 (at34 bs)
-            d34 = s-seq 𝓤 H A W 𝓣 E G10 G11 b5 b24 Δ0 (give (s9 bs)) (at33 bs) (t-sl-relend 𝓤 H A W E U16 𝓣 G10 3 13 2 7 (tyRef (named 2) mut (tyInt w16)) (tyRef erased mut (tyInt
-                w16)) K2 0 (λ x. x) (as-is 𝓤 H A (mslice U16 (tyRef (named 2) mut (tyInt w16)) 2)) (room-gone 𝓤 H A (tyRef erased mut (tyInt w16))) refl tt refl refl refl λ b o. tt)
-                d33
+            d34 = s-seq 𝓤 H A W 𝓣 E G10 G11 _ _ Δ0 (give (s9 bs)) (at33 bs)
+                (t-sl-relend 𝓤 H A W E U16 𝓣 G10 3 13 2 7 (tyRef (named 2) mut (tyInt w16)) (tyRef erased mut (tyInt w16)) K2 0 (λ x. x)
+                (as-is 𝓤 H A (mslice U16 (tyRef (named 2) mut (tyInt w16)) 2)) (room-gone 𝓤 H A (tyRef erased mut (tyInt w16))) refl tt refl refl refl λ b o. tt) d33
 
             d35 : Typed 𝓤 H A 𝓣 E G9 b25 Δ0 (at35 bs)
-            d35 = g-pre 𝓤 H A W 𝓣 E G9 G10 b25 Δ0 (λ Ψ. Ψ) (at34 bs) (g-begin 𝓤 H A W E G9 7 (
-              tt,
-              (
-                (tt, tt),
-                (
-                  (tt, tt),
-                  (
-                    tt,
-                    (
-                      tt,
-                      (
-                        tt,
-                        (
-                          tt,
-                          (
-                            tt,
-                            (
-                              tt,
-                              (
-                                tt,
-                                (
-                                  tt,
-                                  (
-                                    tt,
-                                    (
-                                      tt,
-                                      (
-                                        tt,
-                                        (
-                                          tt,
-                                          (tt, (tt, (tt, (tt, (tt, (tt, (tt, tt))))))),
-                                        ),
-                                      ),
-                                    ),
-                                  ),
-                                ),
-                              ),
-                            ),
-                          ),
-                        ),
-                      ),
-                    ),
-                  ),
-                ),
-              ),
-            )) d34
+            d35 = g-pre 𝓤 H A W 𝓣 E G9 G10 b25 Δ0 (λ Ψ. Ψ) (at34 bs) (g-begin 𝓤 H A W E G9 7 (tt, ((tt, tt), ((tt, tt), units 19 tt)))) d34
 
             d36 : Typed 𝓤 H A 𝓣 E G8 b26 Δ0 (at36 bs)
-            d36 = s-seq 𝓤 H A W 𝓣 E G8 G9 b4 b25 Δ0 (ask (s7 bs)) (at35 bs) (t-sl-aggregate 𝓤 H A W E U16 𝓣 (asMut U16) G8 11 12 6 (tyRef erased mut (tyInt w16)) (tyRef erased mut
-                (tyInt w16)) (λ x. x) (oFld 2 (field 1 ∷ []) (tyInt w64) 8 λ v. lenV (v .0)) (as-is 𝓤 H A (msptr U16 (tyRef erased mut (tyInt w16)) 6)) (room-gone 𝓤 H A (sliceTy
-                (tyRef erased mut (tyInt w16)))) (reads-owed-len 𝓤 H A W U16 (tyRef (named 1) mut (tyInt w16)) 1 6 K1 8 refl, refl) refl refl λ b o k. tt) d35
+            d36 = s-seq 𝓤 H A W 𝓣 E G8 G9 _ _ Δ0 (ask (s7 bs)) (at35 bs)
+                (t-sl-aggregate 𝓤 H A W E U16 𝓣 (asMut U16) G8 11 12 6 (tyRef erased mut (tyInt w16)) (tyRef erased mut (tyInt w16)) (λ x. x)
+                (oFld 2 (field 1 ∷ []) (tyInt w64) 8 λ v. lenV (v .0)) (as-is 𝓤 H A (msptr U16 (tyRef erased mut (tyInt w16)) 6))
+                (room-gone 𝓤 H A (sliceTy (tyRef erased mut (tyInt w16)))) (reads-owed-len 𝓤 H A W U16 (tyRef (named 1) mut (tyInt w16)) 1 6 K1 8 refl, refl) refl refl λ b o
+                k. tt) d35
 
             d37 : Typed 𝓤 H A 𝓣 E G7 b27 Δ0 (at37 bs)
-            d37 = s-seq 𝓤 H A W 𝓣 E G7 G8 b3 b26 Δ0 (give (s6 bs)) (at36 bs) (t-sl-relend 𝓤 H A W E U16 𝓣 G7 2 11 1 6 (tyRef (named 1) mut (tyInt w16)) (tyRef erased mut (tyInt w16))
-                K1 0 (λ x. x) (as-is 𝓤 H A (mslice U16 (tyRef (named 1) mut (tyInt w16)) 1)) (room-gone 𝓤 H A (tyRef erased mut (tyInt w16))) refl tt refl refl refl λ b o. tt) d36
+            d37 = s-seq 𝓤 H A W 𝓣 E G7 G8 _ _ Δ0 (give (s6 bs)) (at36 bs)
+                (t-sl-relend 𝓤 H A W E U16 𝓣 G7 2 11 1 6 (tyRef (named 1) mut (tyInt w16)) (tyRef erased mut (tyInt w16)) K1 0 (λ x. x)
+                (as-is 𝓤 H A (mslice U16 (tyRef (named 1) mut (tyInt w16)) 1)) (room-gone 𝓤 H A (tyRef erased mut (tyInt w16))) refl tt refl refl refl λ b o. tt) d36
 
             d38 : Typed 𝓤 H A 𝓣 E G6 b27 Δ0 (at38 bs)
-            d38 = g-pre 𝓤 H A W 𝓣 E G6 G7 b27 Δ0 (λ Ψ. Ψ) (at37 bs) (g-begin 𝓤 H A W E G6 6 (
-              tt,
-              (
-                (tt, tt),
-                (
-                  tt,
-                  (
-                    tt,
-                    (
-                      tt,
-                      (
-                        tt,
-                        (
-                          tt,
-                          (
-                            tt,
-                            (
-                              tt,
-                              (
-                                tt,
-                                (
-                                  tt,
-                                  (
-                                    tt,
-                                    (
-                                      tt,
-                                      (
-                                        tt,
-                                        (
-                                          tt,
-                                          (
-                                            tt,
-                                            (
-                                              tt,
-                                              (tt, (tt, (tt, (tt, (tt, tt))))),
-                                            ),
-                                          ),
-                                        ),
-                                      ),
-                                    ),
-                                  ),
-                                ),
-                              ),
-                            ),
-                          ),
-                        ),
-                      ),
-                    ),
-                  ),
-                ),
-              ),
-            )) d37
+            d38 = g-pre 𝓤 H A W 𝓣 E G6 G7 b27 Δ0 (λ Ψ. Ψ) (at37 bs) (g-begin 𝓤 H A W E G6 6 (tt, ((tt, tt), units 20 tt))) d37
 
             d39 : Typed 𝓤 H A 𝓣 E G5 b28 Δ0 (at39 bs)
-            d39 = s-seq 𝓤 H A W 𝓣 E G5 G6 b2 b27 Δ0 (ask (s4 bs)) (at38 bs) (t-sl-aggregate 𝓤 H A W E U16 𝓣 (asMut U16) G5 9 10 5 (tyRef erased mut (tyInt w16)) (tyRef erased mut
-                (tyInt w16)) (λ x. x) (oFld 1 (field 1 ∷ []) (tyInt w64) 8 λ v. lenV (v .0)) (as-is 𝓤 H A (msptr U16 (tyRef erased mut (tyInt w16)) 5)) (room-gone 𝓤 H A (sliceTy
-                (tyRef erased mut (tyInt w16)))) (reads-owed-len 𝓤 H A W U16 (tyRef (named 0) mut (tyInt w16)) 0 5 K0 8 refl, refl) refl refl λ b o k. tt) d38
+            d39 = s-seq 𝓤 H A W 𝓣 E G5 G6 _ _ Δ0 (ask (s4 bs)) (at38 bs)
+                (t-sl-aggregate 𝓤 H A W E U16 𝓣 (asMut U16) G5 9 10 5 (tyRef erased mut (tyInt w16)) (tyRef erased mut (tyInt w16)) (λ x. x)
+                (oFld 1 (field 1 ∷ []) (tyInt w64) 8 λ v. lenV (v .0)) (as-is 𝓤 H A (msptr U16 (tyRef erased mut (tyInt w16)) 5))
+                (room-gone 𝓤 H A (sliceTy (tyRef erased mut (tyInt w16)))) (reads-owed-len 𝓤 H A W U16 (tyRef (named 0) mut (tyInt w16)) 0 5 K0 8 refl, refl) refl refl λ b o
+                k. tt) d38
 
             d40 : Typed 𝓤 H A 𝓣 E G4 b29 Δ0 (at40 bs)
-            d40 = s-seq 𝓤 H A W 𝓣 E G4 G5 b1 b28 Δ0 (give (s3 bs)) (at39 bs) (t-sl-relend 𝓤 H A W E U16 𝓣 G4 1 9 0 5 (tyRef (named 0) mut (tyInt w16)) (tyRef erased mut (tyInt w16))
-                K0 0 (λ x. x) (as-is 𝓤 H A (mslice U16 (tyRef (named 0) mut (tyInt w16)) 0)) (room-gone 𝓤 H A (tyRef erased mut (tyInt w16))) refl tt refl refl refl λ b o. tt) d39
+            d40 = s-seq 𝓤 H A W 𝓣 E G4 G5 _ _ Δ0 (give (s3 bs)) (at39 bs)
+                (t-sl-relend 𝓤 H A W E U16 𝓣 G4 1 9 0 5 (tyRef (named 0) mut (tyInt w16)) (tyRef erased mut (tyInt w16)) K0 0 (λ x. x)
+                (as-is 𝓤 H A (mslice U16 (tyRef (named 0) mut (tyInt w16)) 0)) (room-gone 𝓤 H A (tyRef erased mut (tyInt w16))) refl tt refl refl refl λ b o. tt) d39
 
             d41 : Typed 𝓤 H A 𝓣 E G3 b29 Δ0 (at41 bs)
-            d41 = g-pre 𝓤 H A W 𝓣 E G3 G4 b29 Δ0 (λ Ψ. Ψ) (at40 bs) (g-begin 𝓤 H A W E G3 5 (
-              tt,
-              (
-                tt,
-                (
-                  tt,
-                  (
-                    tt,
-                    (
-                      tt,
-                      (
-                        tt,
-                        (
-                          tt,
-                          (
-                            tt,
-                            (
-                              tt,
-                              (
-                                tt,
-                                (
-                                  tt,
-                                  (
-                                    tt,
-                                    (
-                                      tt,
-                                      (
-                                        tt,
-                                        (
-                                          tt,
-                                          (
-                                            tt,
-                                            (
-                                              tt,
-                                              (
-                                                tt,
-                                                (tt, (tt, (tt, (tt, tt)))),
-                                              ),
-                                            ),
-                                          ),
-                                        ),
-                                      ),
-                                    ),
-                                  ),
-                                ),
-                              ),
-                            ),
-                          ),
-                        ),
-                      ),
-                    ),
-                  ),
-                ),
-              ),
-            )) d40
+            d41 = g-pre 𝓤 H A W 𝓣 E G3 G4 b29 Δ0 (λ Ψ. Ψ) (at40 bs) (g-begin 𝓤 H A W E G3 5 (units 22 tt)) d40
 
             d42 : Typed 𝓤 H A 𝓣 E G2 b29 Δ0 (at42 bs)
             d42 = g-pre 𝓤 H A W 𝓣 E G2 G3 b29 Δ0 (pass T2 T3 (s1 bs)) (at41 bs) (g-room 𝓤 H A W E G2 4 (tyArray Record-mir 256) (room-arr 𝓤 H A W Record-row 256 0 256 refl)) d41
 
             d43 : Typed 𝓤 H A 𝓣 E G0 b30 Δ0 (at43 bs)
-            d43 = s-seq 𝓤 H A W 𝓣 E G0 G2 b0 b29 Δ0 (pass T0 T2 (s0 bs)) (at42 bs) (t-val-copy 𝓤 H A W E 𝓣 (λ ρ. Unit) G0 4 8 (Array Record-row 256) (tyArray Record-mir 256) (tyArray
-                Record-mir 256) (arrF Record-row 256 0) (arrF Record-row 256 0) (λ x. x) (λ x. x) (λ x. x) refl (told-none 𝓤 H A (G0 .slots)) (yields-copy 𝓤 H A W (λ ρ. Unit) (Array
-                Record-row 256) refl (cArr Record-row (cStruct Record-type Record-laws Record-copy) 256 .copy 𝓤 H A W) (arrF Record-row 256 0) (λ x. x) (λ x. x) (λ ρ told. mem-arr 𝓤
-                H A W Record-row 256 ρ) λ ρ told. arr-mem 𝓤 H A W Record-row 256 tt ρ) (room-gone 𝓤 H A (tyArray Record-mir 256)) (makes-mem 𝓤 H A W (λ ρ. Unit) (Array Record-row
-                256) refl (arrF Record-row 256 0) (λ x. x) λ ρ told. arr-mem 𝓤 H A W Record-row 256 tt ρ) refl refl) d42
+            d43 = s-seq 𝓤 H A W 𝓣 E G0 G2 _ _ Δ0 (pass T0 T2 (s0 bs)) (at42 bs)
+                (t-val-copy 𝓤 H A W E 𝓣 (λ ρ. Unit) G0 4 8 (Array Record-row 256) (tyArray Record-mir 256) (tyArray Record-mir 256) (arrF Record-row 256 0) (arrF Record-row 256 0)
+                (λ x. x) (λ x. x) (λ x. x) refl (told-none 𝓤 H A (G0 .slots))
+                (yields-copy 𝓤 H A W (λ ρ. Unit) (Array Record-row 256) refl (cArr Record-row (cStruct Record-type Record-laws Record-copy) 256 .copy 𝓤 H A W)
+                (arrF Record-row 256 0) (λ x. x) (λ x. x) (λ ρ told. mem-arr 𝓤 H A W Record-row 256 ρ) λ ρ told. arr-mem 𝓤 H A W Record-row 256 tt ρ)
+                (room-gone 𝓤 H A (tyArray Record-mir 256))
+                (makes-mem 𝓤 H A W (λ ρ. Unit) (Array Record-row 256) refl (arrF Record-row 256 0) (λ x. x) λ ρ told. arr-mem 𝓤 H A W Record-row 256 tt ρ) refl refl) d42
 
             pub typed : Typed 𝓤 H A 𝓣 E (Γin 5 ps r xs m κs qs) b30 (Δret 5 ps r xs m κs qs) (Φ bs)
             typed = d43
@@ -1429,8 +1083,8 @@ module _ (claims· : Claims) where
       W0 = λ κs args blocks. (
         λ u. ⊥,
         tt,
-        λ u. Fixs κs 1 ps xs (dens κs args) (u .1) × Post· κs (dens κs args) (resV r κs (u .0)) (atExit (endedOf 5 ps r) κs (dens κs args) (lastsP
-            κs 1 ps xs (dens κs args) (u .1))),
+        λ u. Fixs κs 1 ps xs (dens κs args) (u .1) × Post· κs (dens κs args) (resV r κs (u .0))
+            (atExit (endedOf 5 ps r) κs (dens κs args) (lastsP κs 1 ps xs (dens κs args) (u .1))),
       )
 
       pub record Start : Type 0 where
@@ -1519,8 +1173,8 @@ module _ (claims· : Claims) where
       Need-part-batch-start = (c : After-records) → PartFrom T18 (λ u. 0) (λ u. u .1 .1 .1 .1 .1 .0) (m13 (c .before) (c .records .given))
 
       abbrev pub Need-part-batch-end : Type 0
-      Need-part-batch-end = (c : After-records) → PartTo T18 8 16 (λ x. record { ptr = (0, 0); name = x .0; now = x .1 }) (λ u. u .1 .1 .1 .1 .1 .0) (m13 (c .before) (c .records
-          .given))
+      Need-part-batch-end = (c : After-records) → PartTo T18 8 16 (λ x. record { ptr = (0, 0); name = x .0; now = x .1 }) (λ u. u .1 .1 .1 .1 .1 .0)
+          (m13 (c .before) (c .records .given))
 
       abbrev pub m14 : (before : After-records) → (given : s17 (before .before .before .before .before .blocks) .gives (m13 (before .before) (before .records .given))) → Mo T19
       m14 = λ before given. s17 (before .before .before .before .before .blocks) .next (m13 (before .before) (before .records .given)) given
@@ -1542,12 +1196,12 @@ module _ (claims· : Claims) where
         pub before : After-records
         pub batch-arg4 : After-batch-arg4·own before
 
-      abbrev pub m18 : (before : After-batch-arg4) → (given : s22 (before .before .before .before .before .before .blocks) .gives (m17 (before .before) (before .batch-arg4
-          .given))) → Mo T24
+      abbrev pub m18 : (before : After-batch-arg4) →
+          (given : s22 (before .before .before .before .before .before .blocks) .gives (m17 (before .before) (before .batch-arg4 .given))) → Mo T24
       m18 = λ before given. s22 (before .before .before .before .before .before .blocks) .next (m17 (before .before) (before .batch-arg4 .given)) given
 
-      abbrev pub m19 : (before : After-batch-arg4) → (given : s22 (before .before .before .before .before .before .blocks) .gives (m17 (before .before) (before .batch-arg4
-          .given))) → Mo T25
+      abbrev pub m19 : (before : After-batch-arg4) →
+          (given : s22 (before .before .before .before .before .before .blocks) .gives (m17 (before .before) (before .batch-arg4 .given))) → Mo T25
       m19 = λ before given. s23 (before .before .before .before .before .before .blocks) .next (m18 before given)
 
       module _ (before· : After-batch-arg4) where
@@ -1561,69 +1215,28 @@ module _ (claims· : Claims) where
       abbrev pub Need-batch-requires : Type 0
       Need-batch-requires = (c : After-batch-arg5) → s24 (c .before .before .before .before .before .before .blocks) .asks (m19 (c .before) (c .batch-arg5 .given))
 
-      abbrev pub m20 : (before : After-batch-arg5) → (given : s24 (before .before .before .before .before .before .before .blocks) .gives (m19 (before .before) (before .batch-arg5
-          .given))) → Mo T26
+      abbrev pub m20 : (before : After-batch-arg5) →
+          (given : s24 (before .before .before .before .before .before .before .blocks) .gives (m19 (before .before) (before .batch-arg5 .given))) → Mo T26
       m20 = λ before given. s24 (before .before .before .before .before .before .before .blocks) .next (m19 (before .before) (before .batch-arg5 .given)) given
 
       module _ (before· : After-batch-arg5) where
         abbrev pub After-batch·own : Type 0
-        After-batch·own = Called ps·0 r·0 (claims· .1) T25 (
-          record { pos = 10; ty = tyRef erased mut (tyInt w16); ref = λ x. x },
-          (
-            record {
-              pos = 12;
-              ty = tyRef erased mut (tyInt
-                  w16);
-              ref = λ x. x;
-            },
-            (
-              record { pos = 14; ty = tyRef erased mut (tyInt w16); ref = λ x. x },
-              (
-                record { pos = 19; ty = tyRef erased imm Record-pointed; ref = λ x. x },
-                (record { pos = 6; ty = tyRef (named 3) imm (tyInt w16); ref = λ x. x }, (record { pos = 21; ty = tyRef erased mut (tyInt w16); ref = λ x. x }, tt)),
-              ),
-            ),
-          ),
-        ) (m19 (before·
-            .before) (before· .batch-arg5 .given))
+        After-batch·own = Called ps·0 r·0 (claims· .1) T25 a0 (m19 (before· .before) (before· .batch-arg5 .given))
 
       pub record After-batch : Type 0 where
         pub before : After-batch-arg5
         pub batch : After-batch·own before
 
-      abbrev pub After-batch·gave : (c : After-batch) → s24 (c .before .before .before .before .before .before .before .blocks) .gives (m19 (c .before .before) (c .before
-          .batch-arg5 .given))
-      After-batch·gave = λ c. Called'.given ps·0 r·0 (claims· .1) T25 (
-        record { pos = 10; ty = tyRef erased mut (tyInt w16); ref = λ x. x },
-        (
-          record {
-            pos = 12;
-            ty = tyRef erased
-                mut (tyInt w16);
-            ref = λ x. x;
-          },
-          (
-            record { pos = 14; ty = tyRef erased mut (tyInt w16); ref = λ x. x },
-            (
-              record {
-                pos = 19;
-                ty = tyRef erased imm Record-pointed;
-                ref = λ
-                    x. x;
-              },
-              (record { pos = 6; ty = tyRef (named 3) imm (tyInt w16); ref = λ x. x }, (record { pos = 21; ty = tyRef erased mut (tyInt w16); ref = λ x. x }, tt)),
-            ),
-          ),
-        ),
-      ) (m19 (c
-          .before .before) (c .before .batch-arg5 .given)) (c .batch)
+      abbrev pub After-batch·gave : (c : After-batch) → s24 (c .before .before .before .before .before .before .before .blocks) .gives
+          (m19 (c .before .before) (c .before .batch-arg5 .given))
+      After-batch·gave = λ c. Called'.given ps·0 r·0 (claims· .1) T25 a0 (m19 (c .before .before) (c .before .batch-arg5 .given)) (c .batch)
 
-      abbrev pub m21 : (before : After-batch-arg5) → (given : s24 (before .before .before .before .before .before .before .blocks) .gives (m19 (before .before) (before .batch-arg5
-          .given))) → Mo T27
+      abbrev pub m21 : (before : After-batch-arg5) →
+          (given : s24 (before .before .before .before .before .before .before .blocks) .gives (m19 (before .before) (before .batch-arg5 .given))) → Mo T27
       m21 = λ before given. s25 (before .before .before .before .before .before .before .blocks) (m20 before given)
 
-      abbrev pub m22 : (before : After-batch) → (given : s27 (before .before .before .before .before .before .before .before .blocks) .gives (m21 (before .before) (After-batch·gave
-          before))) → Mo T29
+      abbrev pub m22 : (before : After-batch) →
+          (given : s27 (before .before .before .before .before .before .before .before .blocks) .gives (m21 (before .before) (After-batch·gave before))) → Mo T29
       m22 = λ before given. s27 (before .before .before .before .before .before .before .before .blocks) .next (m21 (before .before) (After-batch·gave before)) given
 
       module _ (before· : After-batch) where
@@ -1634,8 +1247,8 @@ module _ (claims· : Claims) where
         pub before : After-batch
         pub tasks : After-tasks·own before
 
-      abbrev pub m23 : (before : After-tasks) → (given : s30 (before .before .before .before .before .before .before .before .before .blocks) .gives (m22 (before .before) (before
-          .tasks .given))) → Mo T32
+      abbrev pub m23 : (before : After-tasks) →
+          (given : s30 (before .before .before .before .before .before .before .before .before .blocks) .gives (m22 (before .before) (before .tasks .given))) → Mo T32
       m23 = λ before given. s30 (before .before .before .before .before .before .before .before .before .blocks) .next (m22 (before .before) (before .tasks .given)) given
 
       module _ (before· : After-tasks) where
@@ -1646,17 +1259,17 @@ module _ (claims· : Claims) where
         pub before : After-tasks
         pub promises : After-promises·own before
 
-      abbrev pub m24 : (before : After-promises) → (given : s33 (before .before .before .before .before .before .before .before .before .before .blocks) .gives (m23 (before
-          .before) (before .promises .given))) → Mo T35
+      abbrev pub m24 : (before : After-promises) →
+          (given : s33 (before .before .before .before .before .before .before .before .before .before .blocks) .gives (m23 (before .before) (before .promises .given))) → Mo T35
       m24 = λ before given. s33 (before .before .before .before .before .before .before .before .before .before .blocks) .next (m23 (before .before) (before .promises .given))
           given
 
-      abbrev pub m25 : (before : After-promises) → (given : s33 (before .before .before .before .before .before .before .before .before .before .blocks) .gives (m23 (before
-          .before) (before .promises .given))) → Mo T38
+      abbrev pub m25 : (before : After-promises) →
+          (given : s33 (before .before .before .before .before .before .before .before .before .before .blocks) .gives (m23 (before .before) (before .promises .given))) → Mo T38
       m25 = λ before given. s36 (before .before .before .before .before .before .before .before .before .before .blocks) (m24 before given)
 
-      abbrev pub m26 : (before : After-promises) → (given : s33 (before .before .before .before .before .before .before .before .before .before .blocks) .gives (m23 (before
-          .before) (before .promises .given))) → Mo T40
+      abbrev pub m26 : (before : After-promises) →
+          (given : s33 (before .before .before .before .before .before .before .before .before .before .blocks) .gives (m23 (before .before) (before .promises .given))) → Mo T40
       m26 = λ before given. s38 (before .before .before .before .before .before .before .before .before .before .blocks) (m25 before given)
 
       module _ (before· : After-promises) where
@@ -1667,13 +1280,15 @@ module _ (claims· : Claims) where
         pub before : After-promises
         pub report : After-report·own before
 
-      abbrev pub m27 : (before : After-report) → (given : s40 (before .before .before .before .before .before .before .before .before .before .before .blocks) .gives (m26 (before
-          .before) (before .report .given))) → Mo T42
-      m27 = λ before given. s40 (before .before .before .before .before .before .before .before .before .before .before .blocks) .next (m26 (before .before) (before .report
-          .given)) given
+      abbrev pub m27 : (before : After-report) →
+          (given : s40 (before .before .before .before .before .before .before .before .before .before .before .blocks) .gives (m26 (before .before) (before .report .given))) → Mo
+          T42
+      m27 = λ before given. s40 (before .before .before .before .before .before .before .before .before .before .before .blocks) .next
+          (m26 (before .before) (before .report .given)) given
 
-      abbrev pub m28 : (before : After-report) → (given : s40 (before .before .before .before .before .before .before .before .before .before .before .blocks) .gives (m26 (before
-          .before) (before .report .given))) → Mo T44
+      abbrev pub m28 : (before : After-report) →
+          (given : s40 (before .before .before .before .before .before .before .before .before .before .before .blocks) .gives (m26 (before .before) (before .report .given))) → Mo
+          T1
       m28 = λ before given. s42 (before .before .before .before .before .before .before .before .before .before .before .blocks) (m27 before given)
 
       module _ (before· : After-report) where
@@ -1685,424 +1300,155 @@ module _ (claims· : Claims) where
         pub answers : After-answers·own before
 
       abbrev pub Need-same-length : Type 0
-      Need-same-length = (c : After-answers) → SameLen (get 1 (T44 .locals) (m28 (c .before) (c .answers .given))) (dens (c .before .before .before .before .before .before .before
-          .before .before .before .before .κs) (c .before .before .before .before .before .before .before .before .before .before .before .args) .0)
+      Need-same-length = (c : After-answers) → SameLen (get 1 (T1 .locals) (m28 (c .before) (c .answers .given)))
+          (dens (c .before .before .before .before .before .before .before .before .before .before .before .κs)
+          (c .before .before .before .before .before .before .before .before .before .before .before .args) .0)
 
       abbrev pub Need-same-length-2 : Type 0
-      Need-same-length-2 = (c : After-answers) → SameLen (get 2 (T44 .locals) (m28 (c .before) (c .answers .given))) (dens (c .before .before .before .before .before .before
-          .before .before .before .before .before .κs) (c .before .before .before .before .before .before .before .before .before .before .before .args) .1 .0)
+      Need-same-length-2 = (c : After-answers) → SameLen (get 2 (T1 .locals) (m28 (c .before) (c .answers .given)))
+          (dens (c .before .before .before .before .before .before .before .before .before .before .before .κs)
+          (c .before .before .before .before .before .before .before .before .before .before .before .args) .1 .0)
 
       abbrev pub Need-same-length-3 : Type 0
-      Need-same-length-3 = (c : After-answers) → SameLen (get 3 (T44 .locals) (m28 (c .before) (c .answers .given))) (dens (c .before .before .before .before .before .before
-          .before .before .before .before .before .κs) (c .before .before .before .before .before .before .before .before .before .before .before .args) .1 .1 .0)
+      Need-same-length-3 = (c : After-answers) → SameLen (get 3 (T1 .locals) (m28 (c .before) (c .answers .given)))
+          (dens (c .before .before .before .before .before .before .before .before .before .before .before .κs)
+          (c .before .before .before .before .before .before .before .before .before .before .before .args) .1 .1 .0)
 
       abbrev pub Need-same-length-4 : Type 0
-      Need-same-length-4 = (c : After-answers) → SameLen (get 7 (T44 .locals) (m28 (c .before) (c .answers .given))) (dens (c .before .before .before .before .before .before
-          .before .before .before .before .before .κs) (c .before .before .before .before .before .before .before .before .before .before .before .args) .1 .1 .1 .1 .1 .1 .0)
+      Need-same-length-4 = (c : After-answers) → SameLen (get 7 (T1 .locals) (m28 (c .before) (c .answers .given)))
+          (dens (c .before .before .before .before .before .before .before .before .before .before .before .κs)
+          (c .before .before .before .before .before .before .before .before .before .before .before .args) .1 .1 .1 .1 .1 .1 .0)
 
       abbrev pub Need-returns : Type 0
-      Need-returns = (c : After-answers) → Post· (c .before .before .before .before .before .before .before .before .before .before .before .κs) (dens (c .before .before .before
-          .before .before .before .before .before .before .before .before .κs) (c .before .before .before .before .before .before .before .before .before .before .before .args))
-          (resV r (c .before .before .before .before .before .before .before .before .before .before .before .κs) (m28 (c .before) (c .answers .given) .0)) (atExit (endedOf 5 ps r)
-          (c .before .before .before .before .before .before .before .before .before .before .before .κs) (dens (c .before .before .before .before .before .before .before .before
-          .before .before .before .κs) (c .before .before .before .before .before .before .before .before .before .before .before .args)) (lastsP (c .before .before .before .before
-          .before .before .before .before .before .before .before .κs) 1 ps xs (dens (c .before .before .before .before .before .before .before .before .before .before .before .κs)
+      Need-returns = (c : After-answers) → Post· (c .before .before .before .before .before .before .before .before .before .before .before .κs)
+          (dens (c .before .before .before .before .before .before .before .before .before .before .before .κs)
+          (c .before .before .before .before .before .before .before .before .before .before .before .args))
+          (resV r (c .before .before .before .before .before .before .before .before .before .before .before .κs) (m28 (c .before) (c .answers .given) .0))
+          (atExit (endedOf 5 ps r) (c .before .before .before .before .before .before .before .before .before .before .before .κs)
+          (dens (c .before .before .before .before .before .before .before .before .before .before .before .κs)
+          (c .before .before .before .before .before .before .before .before .before .before .before .args))
+          (lastsP (c .before .before .before .before .before .before .before .before .before .before .before .κs) 1 ps xs
+          (dens (c .before .before .before .before .before .before .before .before .before .before .before .κs)
           (c .before .before .before .before .before .before .before .before .before .before .before .args)) (m28 (c .before) (c .answers .given) .1)))
 
-      module _ (sub-batch : Need-sub-batch) (part-batch-start : Need-part-batch-start) (part-batch-end : Need-part-batch-end) (batch-requires : Need-batch-requires) (same-length :
-          Need-same-length) (same-length-2 : Need-same-length-2) (same-length-3 : Need-same-length-3) (same-length-4 : Need-same-length-4) (returns : Need-returns) where
-        lay1 : (c : After-batch) → at18 (c .before .before .before .before .before .before .before .blocks) (W0 (c .before .before .before .before .before .before .before .κs) (c
-            .before .before .before .before .before .before .before .args) (c .before .before .before .before .before .before .before .blocks)) (m20 (c .before) (After-batch·gave
-            c))
-        lay1 = λ c. (
-          refl,
-          λ g. (
+      module _ (sub-batch : Need-sub-batch) (part-batch-start : Need-part-batch-start) (part-batch-end : Need-part-batch-end) (batch-requires : Need-batch-requires)
+          (same-length : Need-same-length) (same-length-2 : Need-same-length-2) (same-length-3 : Need-same-length-3) (same-length-4 : Need-same-length-4) (returns : Need-returns)
+        where
+          lay1 : (c : After-batch) → at18 (c .before .before .before .before .before .before .before .blocks)
+              (W0 (c .before .before .before .before .before .before .before .κs) (c .before .before .before .before .before .before .before .args)
+              (c .before .before .before .before .before .before .before .blocks)) (m20 (c .before) (After-batch·gave c))
+          lay1 = λ c. (
             refl,
-            λ g'. (
+            λ g. (
               refl,
-              λ g''. (
+              λ g'. (
                 refl,
-                λ g'3. (
-                  (
-                    fix-len (get 1 (T44 .locals) (m28 record {
-                      before = record {
-                        before = record {
-                          before = record {
-                            before =
-                                c .before;
-                            batch = c .batch;
-                          };
-                          tasks = record { given = g };
-                        };
-                        promises = record { given = g' };
-                      };
-                      report = record { given = g'' };
-                    } g'3) .ptr) (get 1 (T44 .locals)
-                        (m28 record {
-                          before = record {
-                            before = record { before = record { before = c .before; batch = c .batch }; tasks = record { given = g } };
-                            promises = record {
-                              given =
-                                  g';
-                            };
-                          };
-                          report = record { given = g'' };
-                        } g'3) .name) (get 1 (T44 .locals) (m28 record {
-                          before = record {
-                            before = record {
-                              before = record {
-                                before = c .before;
-                                batch
-                                    = c .batch;
-                              };
-                              tasks = record { given = g };
-                            };
-                            promises = record { given = g' };
-                          };
-                          report = record { given = g'' };
-                        } g'3) .now) (dens (c .before .before .before .before
-                        .before .before .before .κs) (c .before .before .before .before .before .before .before .args) .0 .now) (same-length record {
-                          before = record {
-                            before = record {
-                              before
-                                  = record { before = record { before = c .before; batch = c .batch }; tasks = record { given = g } };
-                              promises = record { given = g' };
-                            };
-                            report = record { given = g'' };
-                          };
-                          answers = record { given = g'3 };
-                        }),
+                λ g''. let z2 : After-report = record {
+                  before = record { before = record { before = c; tasks = record { given = g } }; promises = record { given = g' } };
+                  report = record
+                      { given = g'' };
+                } in (
+                  refl,
+                  λ g'3. let z1 : After-answers = record { before = z2; answers = record { given = g'3 } } in (
                     (
-                      fix-len (get 2 (T44 .locals) (m28 record {
-                        before = record {
-                          before = record {
-                            before = record {
-                              before = c .before;
-                              batch = c
-                                  .batch;
-                            };
-                            tasks = record { given = g };
-                          };
-                          promises = record { given = g' };
-                        };
-                        report = record { given = g'' };
-                      } g'3) .ptr) (get 2 (T44 .locals) (m28 record {
-                        before =
-                            record { before = record { before = record { before = c .before; batch = c .batch }; tasks = record { given = g } }; promises = record { given = g' } };
-                        report = record
-                            { given = g'' };
-                      } g'3) .name) (get 2 (T44 .locals) (m28 record {
-                        before = record {
-                          before = record {
-                            before = record { before = c .before; batch = c .batch };
-                            tasks =
-                                record { given = g };
-                          };
-                          promises = record { given = g' };
-                        };
-                        report = record { given = g'' };
-                      } g'3) .now) (dens (c .before .before .before .before .before .before
-                          .before .κs) (c .before .before .before .before .before .before .before .args) .1 .0 .now) (same-length-2 record {
-                            before = record {
-                              before = record {
-                                before = record {
-                                  before = record { before = c .before; batch = c .batch };
-                                  tasks = record { given = g };
-                                };
-                                promises = record { given = g' };
-                              };
-                              report = record { given = g'' };
-                            };
-                            answers
-                                = record { given = g'3 };
-                          }),
+                      fix-len (get 1 (T1 .locals) (m28 z2 g'3) .ptr) (get 1 (T1 .locals) (m28 z2 g'3) .name)
+                          (get 1 (T1 .locals) (m28 z2 g'3) .now) (dens (c .before .before .before .before .before .before .before .κs)
+                          (c .before .before .before .before .before .before .before .args) .0 .now) (same-length z1),
                       (
-                        fix-len (get 3 (T44 .locals) (m28 record {
-                          before = record {
-                            before = record {
-                              before = record { before = c .before; batch = c .batch };
-                              tasks = record { given = g };
-                            };
-                            promises = record { given = g' };
-                          };
-                          report = record { given = g'' };
-                        } g'3) .ptr) (get 3 (T44 .locals) (m28 record {
-                          before = record {
-                            before = record { before = record { before = c .before; batch = c .batch }; tasks = record { given = g } };
-                            promises = record { given = g' };
-                          };
-                          report = record {
-                            given
-                                = g'';
-                          };
-                        } g'3) .name) (get 3 (T44 .locals) (m28 record {
-                          before = record {
-                            before = record {
-                              before = record { before = c .before; batch = c .batch };
-                              tasks = record {
-                                given = g;
-                              };
-                            };
-                            promises = record { given = g' };
-                          };
-                          report = record { given = g'' };
-                        } g'3) .now) (dens (c .before .before .before .before .before .before .before .κs) (c
-                            .before .before .before .before .before .before .before .args) .1 .1 .0 .now) (same-length-3 record {
-                              before = record {
-                                before = record {
-                                  before = record {
-                                    before =
-                                        record { before = c .before; batch = c .batch };
-                                    tasks = record { given = g };
-                                  };
-                                  promises = record { given = g' };
-                                };
-                                report = record { given = g'' };
-                              };
-                              answers = record
-                                  { given = g'3 };
-                            }),
+                        fix-len (get 2 (T1 .locals) (m28 z2 g'3) .ptr) (get 2 (T1 .locals) (m28 z2 g'3) .name)
+                            (get 2 (T1 .locals) (m28 z2 g'3) .now) (dens (c .before .before .before .before .before .before .before .κs)
+                            (c .before .before .before .before .before .before .before .args) .1 .0 .now) (same-length-2 z1),
                         (
-                          tt,
+                          fix-len (get 3 (T1 .locals) (m28 z2 g'3) .ptr) (get 3 (T1 .locals) (m28 z2 g'3) .name)
+                              (get 3 (T1 .locals) (m28 z2 g'3) .now)
+                              (dens (c .before .before .before .before .before .before .before .κs)
+                              (c .before .before .before .before .before .before .before .args) .1 .1 .0 .now) (same-length-3 z1),
                           (
                             tt,
                             (
-                              refl,
+                              tt,
                               (
-                                fix-len (get 7 (T44 .locals) (m28 record {
-                                  before = record {
-                                    before = record {
-                                      before = record {
-                                        before = c .before;
-                                        batch = c
-                                            .batch;
-                                      };
-                                      tasks = record { given = g };
-                                    };
-                                    promises = record { given = g' };
-                                  };
-                                  report = record { given = g'' };
-                                } g'3) .ptr) (get 7 (T44 .locals) (m28 record {
-                                  before =
-                                      record { before = record { before = record { before = c .before; batch = c .batch }; tasks = record { given = g } }; promises = record { given = g' } };
-                                  report = record
-                                      { given = g'' };
-                                } g'3) .name) (get 7 (T44 .locals) (m28 record {
-                                  before = record {
-                                    before = record {
-                                      before = record { before = c .before; batch = c .batch };
-                                      tasks =
-                                          record { given = g };
-                                    };
-                                    promises = record { given = g' };
-                                  };
-                                  report = record { given = g'' };
-                                } g'3) .now) (dens (c .before .before .before .before .before .before
-                                    .before .κs) (c .before .before .before .before .before .before .before .args) .1 .1 .1 .1 .1 .1 .0 .now) (same-length-4 record {
-                                      before = record {
-                                        before = record {
-                                          before = record { before = record { before = c .before; batch = c .batch }; tasks = record { given = g } };
-                                          promises = record { given = g' };
-                                        };
-                                        report = record {
-                                          given
-                                              = g'';
-                                        };
-                                      };
-                                      answers = record { given = g'3 };
-                                    }),
-                                tt,
+                                refl,
+                                (
+                                  fix-len (get 7 (T1 .locals) (m28 z2 g'3) .ptr)
+                                      (get 7 (T1 .locals) (m28 z2 g'3) .name)
+                                      (get 7 (T1 .locals) (m28 z2 g'3) .now)
+                                      (dens (c .before .before .before .before .before .before .before .κs)
+                                      (c .before .before .before .before .before .before .before
+                                      .args) .1 .1 .1 .1 .1 .1 .0 .now) (same-length-4 z1),
+                                  tt,
+                                ),
                               ),
                             ),
                           ),
                         ),
                       ),
                     ),
+                    returns z1,
                   ),
-                  returns record {
-                    before = record {
-                      before = record {
-                        before = record {
-                          before = record {
-                            before = c .before;
-                            batch = c .batch;
-                          };
-                          tasks = record { given = g };
-                        };
-                        promises = record { given = g' };
-                      };
-                      report = record { given = g'' };
-                    };
-                    answers = record { given = g'3 };
-                  },
                 ),
               ),
             ),
-          ),
-        )
+          )
 
-        pub laid : (c : Start) → at43 (c .blocks) (W0 (c .κs) (c .args) (c .blocks)) (m0 (c .κs) (c .args) (c .blocks))
-        laid = λ c. λ g. (
-          refl,
-          λ g'. (
+          pub laid : (c : Start) → at43 (c .blocks) (W0 (c .κs) (c .args) (c .blocks)) (m0 (c .κs) (c .args) (c .blocks))
+          laid = λ c. λ g. (
             refl,
-            λ g''. (
+            λ g'. (
               refl,
-              (
-                tt,
+              λ g''. let z4 : After-batch-arg3 = record {
+                before = record { before = record { before = c; batch-arg = record { given = g } }; batch-arg2 = record { given = g' } };
+                batch-arg3 = record
+                    { given = g'' };
+              } in (
+                refl,
                 (
-                  sub-batch record {
-                    before = record {
-                      before = record { before = c; batch-arg = record { given = g } };
-                      batch-arg2 =
-                          record { given = g' };
-                    };
-                    batch-arg3 = record { given = g'' };
-                  },
-                  λ g'3. (
-                    (
-                      refl,
-                      refl,
-                      part-batch-start record {
-                        before = record {
-                          before = record {
-                            before = record {
-                              before = c;
-                              batch-arg = record { given = g };
-                            };
-                            batch-arg2 = record { given = g' };
-                          };
-                          batch-arg3 = record { given = g'' };
-                        };
-                        records = record { given = g'3 };
-                      },
-                      part-batch-end record {
-                        before = record {
-                          before = record { before = record { before = c; batch-arg = record { given = g } }; batch-arg2 = record { given = g' } };
-                          batch-arg3 = record { given = g'' };
-                        };
-                        records = record { given = g'3 };
-                      },
-                    ),
-                    λ g'4. (
-                      count-is T20 18 19 (λ x. x) (λ u. u .1 .1 .1 .1 .1 .1 .1 .1 .1 .1 .1 .1 .1 .1 .1 .1
-                          .1 .0) (m15 record {
-                            before = record {
-                              before = record { before = record { before = c; batch-arg = record { given = g } }; batch-arg2 = record { given = g' } };
-                              batch-arg3 = record { given = g'' };
-                            };
-                            records = record { given = g'3 };
-                          } g'4) (g'4 .1),
-                      λ g'5. (
-                        refl,
-                        (
-                          batch-requires record {
-                            before = record {
-                              before = record {
-                                before = record {
-                                  before = record { before = record { before = c; batch-arg = record { given = g } }; batch-arg2 = record { given = g' } };
-                                  batch-arg3 = record {
-                                    given
-                                        = g'';
-                                  };
-                                };
-                                records = record { given = g'3 };
-                              };
-                              batch-arg4 = record { given = g'4 };
-                            };
-                            batch-arg5 = record { given = g'5 };
-                          },
-                          λ g'6. lay1 record {
-                            before = record {
-                              before = record {
-                                before = record {
-                                  before = record {
-                                    before = record {
-                                      before = record { before = c; batch-arg = record { given = g } };
-                                      batch-arg2 = record {
-                                        given =
-                                            g';
-                                      };
-                                    };
-                                    batch-arg3 = record { given = g'' };
-                                  };
-                                  records = record { given = g'3 };
-                                };
-                                batch-arg4 = record { given = g'4 };
-                              };
-                              batch-arg5 = record { given = g'5 };
-                            };
-                            batch =
-                                called ps·0 r·0 (claims· .1) T25 (
-                                  record { pos = 10; ty = tyRef erased mut (tyInt w16); ref = λ x. x },
+                  tt,
+                  (
+                    sub-batch z4,
+                    λ g'3. let z3 : After-records = record { before = z4; records = record { given = g'3 } } in (
+                      (refl, refl, part-batch-start z3, part-batch-end z3),
+                      λ g'4. let z2 : After-batch-arg4 = record
+                          { before = z3; batch-arg4 = record { given = g'4 } } in (
+                            count-is T20 18 19 (λ x. x) (λ u. u .1 .1 .1 .1 .1 .1 .1 .1 .1 .1 .1 .1 .1 .1 .1 .1 .1 .0) (m15 z3 g'4) (g'4 .1),
+                            λ
+                                g'5. let z1 : After-batch-arg5 = record { before = z2; batch-arg5 = record { given = g'5 } } in (
+                                  refl,
                                   (
-                                    record {
-                                      pos = 12;
-                                      ty = tyRef erased mut (tyInt w16);
-                                      ref = λ
-                                          x. x;
-                                    },
-                                    (
-                                      record { pos = 14; ty = tyRef erased mut (tyInt w16); ref = λ x. x },
-                                      (
-                                        record { pos = 19; ty = tyRef erased imm Record-pointed; ref = λ x. x },
-                                        (
-                                          record {
-                                            pos =
-                                                6;
-                                            ty = tyRef (named 3) imm (tyInt w16);
-                                            ref = λ x. x;
-                                          },
-                                          (record { pos = 21; ty = tyRef erased mut (tyInt w16); ref = λ x. x }, tt),
-                                        ),
-                                      ),
-                                    ),
+                                    batch-requires z1,
+                                    λ g'6. lay1 record
+                                        { before = z1; batch = called ps·0 r·0 (claims· .1) T25 a0 (m19 z2 g'5) g'6 },
                                   ),
-                                ) (m19 record {
-                                  before = record {
-                                    before = record {
-                                      before = record { before = record { before = c; batch-arg = record { given = g } }; batch-arg2 = record { given = g' } };
-                                      batch-arg3 = record {
-                                        given
-                                            = g'';
-                                      };
-                                    };
-                                    records = record { given = g'3 };
-                                  };
-                                  batch-arg4 = record { given = g'4 };
-                                } g'5) g'6;
-                          },
-                        ),
-                      ),
+                                ),
+                          ),
                     ),
                   ),
                 ),
               ),
             ),
-          ),
-        )
+          )
 
-        module _ (κs : Lfts 5) (qs : Shares 5) where
-          pub asked : (a : Dens κs ps) → (good : GoodsP κs ps a) → (pre : Pre· κs a) → (bs : List ℕ) → Φ bs (wantQ 5 ps r xs m κs qs a (Post· κs a)) (init 5 ps r xs m κs qs a)
-          asked = λ a good pre bs. laid record {
-            κs = κs;
-            args = record {
-              tasks = a .0;
-              promises = a .1 .0;
-              report = a .1 .1 .0;
-              t4 = a .1 .1 .1 .0;
-              n = a .1 .1 .1 .1 .0;
-              list = a
-                  .1 .1 .1 .1 .1 .0;
-              answers = a .1 .1 .1 .1 .1 .1 .0;
-            };
-            blocks = bs;
-            good = good;
-            fits = record { n = record { fits = good .1 .1 .1 .1 .0 .1 } };
-            pre = pre;
-          }
+          module _ (κs : Lfts 5) (qs : Shares 5) where
+            pub asked : (a : Dens κs ps) → (good : GoodsP κs ps a) → (pre : Pre· κs a) → (bs : List ℕ) → Φ bs (wantQ 5 ps r xs m κs qs a (Post· κs a)) (init 5 ps r xs m κs qs a)
+            asked = λ a good pre bs. laid record {
+              κs = κs;
+              args = record {
+                tasks = a .0;
+                promises = a .1 .0;
+                report = a .1 .1 .0;
+                t4 = a .1 .1 .1 .0;
+                n = a .1 .1 .1 .1 .0;
+                list = a .1 .1 .1 .1 .1 .0;
+                answers = a .1 .1 .1 .1 .1 .1
+                    .0;
+              };
+              blocks = bs;
+              good = good;
+              fits = record { n = record { fits = good .1 .1 .1 .1 .0 .1 } };
+              pre = pre;
+            }
 
-        module _ {M : Type 1} (𝓤 : URA M) (H : Heap 𝓤) (A : Atoms 𝓤) (W : Given 𝓤 H A) (𝓣 : Tables 𝓤 H) (known0 : Known 𝓤 H A W 𝓣 6 ps·0 r·0 (claims· .0) (claims· .1)
-            "batch::batch") where
-          pub spec : Triple 𝓤 (WpFn 𝓤 H (𝓣 .C) (𝓣 .Λ) (fnOf 5 ps r xs m hs body)) (plainOf 𝓤 H A 5 ps r Pre· Post·)
-          spec = t-fn-plain 𝓤 H A W 𝓣 5 ps r xs m hs body (λ κs qs bs. Φ bs) (λ κs qs bs bd. typed κs qs 𝓤 H A W 𝓣 known0 bs bd) Pre· Post· asked
+          module _ {M : Type 1} (𝓤 : URA M) (H : Heap 𝓤) (A : Atoms 𝓤) (W : Given 𝓤 H A) (𝓣 : Tables 𝓤 H)
+              (known0 : Known 𝓤 H A W 𝓣 6 ps·0 r·0 (claims· .0) (claims· .1) "batch::batch") where
+            pub spec : Triple 𝓤 (WpFn 𝓤 H (𝓣 .C) (𝓣 .Λ) (fnOf 5 ps r xs m hs body)) (plainOf 𝓤 H A 5 ps r Pre· Post·)
+            spec = t-fn-plain 𝓤 H A W 𝓣 5 ps r xs m hs body (λ κs qs bs. Φ bs) (λ κs qs bs bd. typed κs qs 𝓤 H A W 𝓣 known0 bs bd) Pre· Post· asked

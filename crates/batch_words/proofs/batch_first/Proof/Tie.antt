@@ -76,29 +76,15 @@ abbrev pub Need-returns : Type 0
 Need-returns = Lts.Need-returns (Reads.Asked, Reads.Learnt) Reads'.Pre Reads'.Post
 
 module _ {M : Type 1} where
-  pub spec : (answer : Need-sub-batch) → (answer : Need-part-batch-start) → (answer : Need-part-batch-end) → (answer : Need-batch-requires) → (answer : Need-same-length) → (answer
-      : Need-same-length-2) → (answer : Need-same-length-3) → (answer : Need-same-length-4) → (answer : Need-returns) → Lts.Closed (Reads.Asked, Reads.Learnt) Reads'.Pre
+  pub spec : (answer : Need-sub-batch) → (answer : Need-part-batch-start) → (answer : Need-part-batch-end) → (answer : Need-batch-requires) → (answer : Need-same-length) →
+      (answer : Need-same-length-2) → (answer : Need-same-length-3) → (answer : Need-same-length-4) → (answer : Need-returns) → Lts.Closed (Reads.Asked, Reads.Learnt) Reads'.Pre
       Reads'.Post M
   spec = λ answer answer' answer'' answer'3 answer'4 answer'5 answer'6 answer'7 answer'8. Lts.spec (Reads.Asked, Reads.Learnt) Reads'.Pre Reads'.Post answer answer' answer''
       answer'3 answer'4 answer'5 answer'6 answer'7 answer'8
 
   pub close : Lts.Closed (Reads.Asked, Reads.Learnt) Reads'.Pre Reads'.Post M → statement M
   unfolding Code.routine tablesOf
-  close = λ closed 𝓤 H 𝓜 𝓖 𝓡. Written.close 5 ps r Reads'.Ghost Reads'.requires Reads'.ensures Reads'.pre-read Reads'.Pinned Reads'.Owned Reads'.post-read record {
-    M = M;
-    𝓤 = 𝓤;
-    H
-        = H;
-    𝓜 = 𝓜;
-    𝓖 = 𝓖;
-    𝓡 = 𝓡;
-  } env Key.name function (unfolded 𝓤 H 𝓜 𝓡) (λ κs a g. tt) (λ κs. Reads'.owns κs record { M = M; 𝓤 = 𝓤; H = H; 𝓜 = 𝓜; 𝓖 = 𝓖; 𝓡 = 𝓡 }) (Reads'.passes
-      record { M = M; 𝓤 = 𝓤; H = H; 𝓜 = 𝓜; 𝓖 = 𝓖; 𝓡 = 𝓡 }) λ g. closed 𝓤 H (𝓖 .A) (givenOf 𝓤 H 𝓜 𝓖) (Over 𝓤 H 𝓜 𝓖 𝓡 env) (Reads.known record {
-        M = M;
-        𝓤 = 𝓤;
-        H = H;
-        𝓜 = 𝓜;
-        𝓖 = 𝓖;
-        𝓡
-            = 𝓡;
-      } env Symbol.name Symbol.routine calls-batch·batch (met 𝓤 H 𝓜 𝓖 𝓡))
+  close = λ closed 𝓤 H 𝓜 𝓖 𝓡. Written.close 5 ps r Reads'.Ghost Reads'.requires Reads'.ensures Reads'.pre-read Reads'.Pinned Reads'.Owned Reads'.post-read record
+      { M = M; 𝓤 = 𝓤; H = H; 𝓜 = 𝓜; 𝓖 = 𝓖; 𝓡 = 𝓡 } env Key.name function (unfolded 𝓤 H 𝓜 𝓡) (λ κs a g. tt)
+      (λ κs. Reads'.owns κs record { M = M; 𝓤 = 𝓤; H = H; 𝓜 = 𝓜; 𝓖 = 𝓖; 𝓡 = 𝓡 }) (Reads'.passes record { M = M; 𝓤 = 𝓤; H = H; 𝓜 = 𝓜; 𝓖 = 𝓖; 𝓡 = 𝓡 }) λ g. closed 𝓤 H (𝓖 .A)
+      (givenOf 𝓤 H 𝓜 𝓖) (Over 𝓤 H 𝓜 𝓖 𝓡 env) (Reads.known record { M = M; 𝓤 = 𝓤; H = H; 𝓜 = 𝓜; 𝓖 = 𝓖; 𝓡 = 𝓡 } env Symbol.name Symbol.routine calls-batch·batch (met 𝓤 H 𝓜 𝓖 𝓡))
