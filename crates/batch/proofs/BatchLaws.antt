@@ -16,12 +16,13 @@ use Rattle.words.specs.Words.{Form, sizesInBounds, roomFor, mostRecords}
 use Rattle.words.proofs.BoolLaws.{and-split, and-false}
 use Rattle.words.proofs.ListLaws.{over-sets, over-none, sets-append}
 use Rattle.words.proofs.WordLaws.{Sizes, sizesInBounds-true}
-use Rattle.rules.specs.Tables.{Tables, inBounds}
+use Rattle.rules.specs.Tables.{Tables, inBounds, roomOf}
 use Rattle.rules.specs.Sound.{soundTest}
+use Rattle.rules.specs.Answers.{byNumber}
 use Rattle.rules.specs.Refusals.{first, tableRows}
 use Rattle.rules.specs.Steps.{Outcome, raw, step}
 use Rattle.rules.specs.Demands.{Apart, Good}
-use Rattle.rules.proofs.BoundsLaws.{AsLong, as-long, as-long-too, inBounds-true, inBounds-of}
+use Rattle.rules.proofs.BoundsLaws.{AsLong, as-long, as-long-too, sizesFit-of, inBounds-both}
 use Rattle.rules.proofs.GuardLaws.{guarded-is, guarded-none}
 use Rattle.rules.proofs.Kept.{good-passes, good-step, step-lengths}
 use Rattle.rules.proofs.Promises.{test-means-sound}
@@ -73,13 +74,11 @@ module _ (F : Form) (s : Tables) (n m k : ℕ) (e : first (callRows F s n m k) �
   pub call-roomy : Roomy F (length (s .tasks)) (length (s .promises)) n m k
   call-roomy = hasRoom-true F (length (s .tasks)) (length (s .promises)) n m k (callRows-none .0)
 
-  -- the tables are good, with a report of their own for each step
-  pub call-good : Apart F → Good F (roomFor (length (s .tasks)) (length (s .promises))) s
+  pub call-good : Apart F → Good F s
   call-good apart =
       let b = call-roomy .sizes in
       record {
-        bounds = inBounds-of F (roomFor (length (s .tasks)) (length (s .promises))) s
-            (record { some = b .some; tasks = b .tasks; promises = b .promises; room = omega arith });
+        sizes = sizesFit-of F s b;
         sound = test-means-sound (F .base) s (omega (arith, apart, b .tasks)) (callRows-none .1);
       }
 
@@ -100,21 +99,29 @@ module _ (F : Form) (list : List ℕ) (s : Tables) (rs : List Record) (m k : ℕ
 
 -- ---- a record's step on good tables
 
-module _ (F : Form) (apart : Apart F) (n : ℕ) (list : List ℕ) (s : Tables) (r : Record) (g : Good F n s) where
-  pub record-raw : stepRecord F n list s r ≡ rawRecord F list s r
-  record-raw = guarded-none _ (first (tableRows F n s)) s (rawRecord F list s r) (good-passes F apart n s g)
+module _ (F : Form) (apart : Apart F) (list : List ℕ) (s : Tables) (r : Record) (g : Good F s) where
+  -- with a report that has room
+  pub record-raw : (n : ℕ) → roomOf s ≤ n → stepRecord F n list s r ≡ rawRecord F list s r
+  record-raw n room =
+      guarded-none _ (first (tableRows F n s)) s (rawRecord F list s r) (good-passes F apart n s g room)
 
   -- whatever holds of the tables before, and after each step of them
-  record-by : (Q : Tables → Type 0) → Q s → Q (step F n s (stepOf list r) .after) → Q (rawRecord F list s r .after)
+  record-by : (Q : Tables → Type 0) → Q s → Q (step F (roomOf s) s (stepOf list r) .after) → Q (rawRecord F list s r .after)
   record-by Q before after =
+      let passed = good-passes F apart (roomOf s) s g (omega arith) in
+      let same = guarded-none byNumber (first (tableRows F (roomOf s) s)) s (raw F s (stepOf list r)) passed in
       guarded-is _ (first (partRows list r)) s (raw F s (stepOf list r)) Q before
-      (λ e. subst (λ (o : Outcome). Q (o .after)) (guarded-none _ (first (tableRows F n s)) s (raw F s (stepOf list r)) (good-passes F apart n s g)) after)
+      (λ e. subst (λ (o : Outcome). Q (o .after)) same after)
 
-  pub record-good : Good F n (rawRecord F list s r .after)
-  record-good = record-by (Good F n) g (good-step F apart n s (stepOf list r) g)
+  pub record-good : Good F (rawRecord F list s r .after)
+  record-good = record-by (Good F) g (good-step F apart (roomOf s) s (stepOf list r) g)
 
   pub record-lengths : AsLong (rawRecord F list s r .after) s
-  record-lengths = record-by (λ (x : Tables). AsLong x s) (as-long s) (step-lengths F apart n s (stepOf list r))
+  record-lengths = record-by (λ (x : Tables). AsLong x s) (as-long s) (step-lengths F apart (roomOf s) s (stepOf list r))
+
+  -- whatever the report
+  pub record-step-good : (n : ℕ) → Good F (stepRecord F n list s r .after)
+  record-step-good n = guarded-is _ (first (tableRows F n s)) s (rawRecord F list s r) (Good F) g (λ e. record-good)
 
 -- ---- lengths
 
@@ -151,7 +158,7 @@ one-less (suc a) n h =
 
 module _ (F : Form) (apart : Apart F) (list : List ℕ) (rs : List Record) (s₀ : Tables) (rep₀ ans₀ : List ℕ) where
   abbrev own : ℕ
-  own = roomFor (length (s₀ .tasks)) (length (s₀ .promises))
+  own = roomOf s₀
 
   -- what all records make
   abbrev all : List Outcome
@@ -165,7 +172,7 @@ module _ (F : Form) (apart : Apart F) (list : List ℕ) (rs : List Record) (s₀
   pub record Going (i at : ℕ) (s : Tables) (rep ans : List ℕ) : Type 0 where
     pub few : length rs ≤ mostRecords
     pub within : i ≤ length rs
-    pub good : Good F own s
+    pub good : Good F s
     pub sizes : AsLong s s₀
     pub lengths : (length rep ≡ length rep₀) × (length ans ≡ length ans₀)
     pub room : at + (length rs - i) * own ≤ length rep₀
@@ -193,13 +200,17 @@ module _ (F : Form) (apart : Apart F) (list : List ℕ) (rs : List Record) (s₀
         answers = refl;
       }
 
+  -- the tables are as long as those lent, so their reports need the same room
+  going-room : {i at : ℕ} {s : Tables} {rep ans : List ℕ} → Going i at s rep ans → roomOf s ≤ own
+  going-room g = omega (arith, g .sizes .tasks, g .sizes .promises)
+
   -- what is asked of the i-th turn
   pub going-asks : {i at : ℕ} {s : Tables} {rep ans : List ℕ} → Going i at s rep ans → i < length rs
       → (inBounds F (length rep - at) s ≡ true) × (at ≤ length rep) × (4 * i + 4 ≤ length ans)
   going-asks {i} {at} {s} {rep} {ans} g h =
-      let b = inBounds-true F own s (g .good .bounds) in
-      let fits : at + own ≤ length rep = omega (arith, g .room, g .lengths .0, one-less (length rs - i) own (omega arith)) in (
-        inBounds-of F (length rep - at) s (record { some = b .some; tasks = b .tasks; promises = b .promises; room = omega (arith, b .room) }),
+      let turn = one-less (length rs - i) own (omega arith) in
+      let fits : at + own ≤ length rep = omega (arith, g .room, g .lengths .0, turn) in (
+        inBounds-both F (length rep - at) s (g .good .sizes) (omega (arith, going-room g)),
         omega arith,
         omega (arith, g .answered, g .lengths .1),
       )
@@ -213,13 +224,15 @@ module _ (F : Form) (apart : Apart F) (list : List ℕ) (rs : List Record) (s₀
     left = rest (i + 1) (o .after)
 
     its-own : rest i s ≡ o ∷ left
-    its-own = subst (λ (x : Outcome). rest i s ≡ x ∷ rest (i + 1) (x .after)) (record-raw F apart own list s (recordAt rs i) (g .good)) (one-more F own list s rs i h)
+    its-own =
+        subst (λ (x : Outcome). rest i s ≡ x ∷ rest (i + 1) (x .after))
+        (record-raw F apart list s (recordAt rs i) (g .good) own (going-room g)) (one-more F own list s rs i h)
 
     took-room : at + length (o .words) + (length rs - (i + 1)) * own ≤ length rep₀
     took-room =
-        let b = inBounds-true F own s (g .good .bounds) in
+        let turn = one-less (length rs - i) own (omega arith) in
         let k : (length rs - i - 1) * own ≡ (length rs - (i + 1)) * own = ap (λ (a : ℕ). a * own) (omega arith) in
-        omega (arith, g .room, one-less (length rs - i) own (omega arith), k, record-room F list s (recordAt rs i), b .room)
+        omega (arith, g .room, turn, k, record-room F list s (recordAt rs i), going-room g)
 
     took-tables : lastTables (o .after) left ≡ lastTables s₀ all
     unfolding lastTables
@@ -242,11 +255,11 @@ module _ (F : Form) (apart : Apart F) (list : List ℕ) (rs : List Record) (s₀
 
     took : Going (i + 1) (at + length (o .words)) (o .after) (sets rep at (o .words)) (sets ans (4 * i) (answerWords (o .answer)))
     took =
-        let l = record-lengths F apart own list s (recordAt rs i) (g .good) in
+        let l = record-lengths F apart list s (recordAt rs i) (g .good) in
         record {
           few = g .few;
           within = omega arith;
-          good = record-good F apart own list s (recordAt rs i) (g .good);
+          good = record-good F apart list s (recordAt rs i) (g .good);
           sizes = as-long-too l (g .sizes);
           lengths = (length-sets rep at (o .words) ∙ g .lengths .0, length-sets ans (4 * i) (answerWords (o .answer)) ∙ g .lengths .1);
           room = took-room;

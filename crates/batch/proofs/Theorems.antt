@@ -7,12 +7,12 @@ use native.Mathlib.Omega.{arith}
 use native.Mathlib.Decide.{ℕ-discrete}
 use borrow.Author.Tests.{eqb-false}
 use lib.ListN.{length, take}
-use Rattle.words.specs.Words.{Form, roomFor}
+use lib.Seq.{take-all}
+use Rattle.words.specs.Words.{Form}
 use Rattle.words.proofs.BoolLaws.{clash}
-use Rattle.rules.specs.Tables.{Tables}
+use Rattle.rules.specs.Tables.{Tables, roomOf}
 use Rattle.rules.specs.Steps.{Outcome}
 use Rattle.rules.specs.Demands.{Apart, Good, FirstGiven, NoneGiven, Demand3}
-use Rattle.rules.proofs.BoundsLaws.{inBounds-true, inBounds-of}
 use Rattle.rules.proofs.Kept.{fresh-good, good-step}
 use Rattle.rules.proofs.Order.{first-given, given-first, none-first, given-number}
 use Rattle.rules.proofs.RefusalLaws.{Numbered, row, no-row}
@@ -23,7 +23,7 @@ use Rattle.batch.specs.Batches.{oneByOne, lastTables, Taken, none-left, 
 use Rattle.batch.specs.Reached.{Reached, from-fresh, by-step, by-call}
 use Rattle.batch.specs.declared.Called.{Called}
 use Rattle.batch.specs.declared.Called.the-variants.{Refused, Done}
-use Rattle.batch.proofs.BatchLaws.{why, taken-all, refused-all, call-good, record-raw, record-good, record-lengths}
+use Rattle.batch.proofs.BatchLaws.{why, taken-all, refused-all, call-good, record-raw, record-good, record-lengths, record-step-good}
 
 -- ---- the call
 
@@ -49,78 +49,66 @@ module _ (F : Form) (list : List ℕ) (s : Tables) (rs : List Record) (m k : ℕ
 -- ---- "Tables, answers and words must equal those of the same steps taken one by one, each with a report of its own."
 
 module _ (F : Form) (apart : Apart F) (list : List ℕ) where
-  -- good tables stay good with a larger report
-  good-more : (own n : ℕ) (s : Tables) → own ≤ n → Good F own s → Good F n s
-  good-more own n s h g =
-      let b = inBounds-true F own s (g .bounds) in
-      record {
-        bounds = inBounds-of F n s (record { some = b .some; tasks = b .tasks; promises = b .promises; room = omega (arith, b .room) });
-        sound = g .sound;
-      }
-
-  taken-one-by-one : (own : ℕ) (s : Tables) (rs : List Record) (os : List Outcome) → own ≡ roomFor (length (s .tasks)) (length (s .promises)) → Good F own s → Taken F list s rs os
-      → os ≡ oneByOne F own list s rs
+  taken-one-by-one : (own : ℕ) (s : Tables) (rs : List Record) (os : List Outcome) → own ≡ roomOf s → Good F s
+      → Taken F list s rs os → os ≡ oneByOne F own list s rs
   unfolding oneByOne
   taken-one-by-one own s [] [] e g none-left = refl
   taken-one-by-one own s (r ∷ rs) (o ∷ os) e g (next n h t) =
-      let x = record-raw F apart n list s r (good-more own n s (omega arith) g) in
-      let y = record-raw F apart own list s r g in
-      let l = record-lengths F apart own list s r g in
-      let z = taken-one-by-one own (rawRecord F list s r .after) rs os (omega (arith, l .tasks, l .promises)) (record-good F apart own list s r g)
-      (subst (λ (a : Outcome). Taken F list (a .after) rs os) x t) in
+      let x = record-raw F apart list s r g n h in
+      let y = record-raw F apart list s r g own (omega arith) in
+      let l = record-lengths F apart list s r g in
+      let z = taken-one-by-one own (rawRecord F list s r .after) rs os (omega (arith, l .tasks, l .promises))
+      (record-good F apart list s r g) (subst (λ (a : Outcome). Taken F list (a .after) rs os) x t) in
       rw (x, y) (ap (λ (l : List Outcome). rawRecord F list s r ∷ l) z)
 
-  pub the-same-one-by-one : (s : Tables) (rs : List Record) (m k : ℕ) (os : List Outcome) → NoneGiven (callRows F s (length rs) m k) → Taken F list s rs os
-      → batched F list s rs m k ≡ done s os
+  pub the-same-one-by-one : (s : Tables) (rs : List Record) (m k : ℕ) (os : List Outcome)
+      → NoneGiven (callRows F s (length rs) m k) → Taken F list s rs os → batched F list s rs m k ≡ done s os
   the-same-one-by-one s rs m k os none t =
       let e = none-first none in
-      let own = roomFor (length (s .tasks)) (length (s .promises)) in
-      taken-all F list s rs m k e ∙ ap (done s) (sym (taken-one-by-one own s rs os refl (call-good F s (length rs) m k e apart) t))
+      let same = taken-one-by-one (roomOf s) s rs os refl (call-good F s (length rs) m k e apart) t in
+      taken-all F list s rs m k e ∙ ap (done s) (sym same)
 
   -- steps can be taken so from any tables
   pub taken-exist : (s : Tables) (rs : List Record) → (os : List Outcome) × Taken F list s rs os
   taken-exist s [] = ([], none-left)
   taken-exist s (r ∷ rs) =
-      let n = roomFor (length (s .tasks)) (length (s .promises)) in
+      let n = roomOf s in
       let (os, t) = taken-exist (stepRecord F n list s r .after) rs in
       (stepRecord F n list s r ∷ os, next {s = s} n (omega arith) t)
 
-  -- ---- "The soundness test runs once a call": each step finds good tables, so none is refused by 1 or 2
+  -- ---- "The soundness test runs once a call": each step finds good tables, so none is refused by 2
 
-  pub each-finds-good-tables : (n : ℕ) (s : Tables) → Good F n s → (rs : List Record) (i : ℕ) → Good F n (lastTables s (oneByOne F n list s (take i rs)))
+  pub each-finds-good-tables : (n : ℕ) (s : Tables) → Good F s → (rs : List Record) (i : ℕ)
+      → Good F (lastTables s (oneByOne F n list s (take i rs)))
   unfolding oneByOne lastTables
   each-finds-good-tables n s g rs zero = g
   each-finds-good-tables n s g [] (suc i) = g
   each-finds-good-tables n s g (r ∷ rs) (suc i) =
-      each-finds-good-tables n (stepRecord F n list s r .after) (subst (λ (o : Outcome). Good F n (o .after)) (sym (record-raw F apart n list s r g)) (record-good F apart n list s r g)) rs i
+      each-finds-good-tables n (stepRecord F n list s r .after) (record-step-good F apart list s r g n) rs i
 
-  -- a call leaves tables good for any report for which they were
-  good-after : (own n : ℕ) (s : Tables) (rs : List Record) → Good F own s → Good F n s → Good F n (lastTables s (oneByOne F own list s rs))
-  unfolding oneByOne lastTables
-  good-after own n s [] h g = g
-  good-after own n s (r ∷ rs) h g =
-      subst (λ (o : Outcome). Good F n (lastTables (o .after) (oneByOne F own list (o .after) rs))) (sym (record-raw F apart own list s r h))
-      (good-after own n (rawRecord F list s r .after) rs (record-good F apart own list s r h) (record-good F apart n list s r g))
-
-  pub a-call-leaves-good-tables : (n : ℕ) (s : Tables) (rs : List Record) (m k : ℕ) → Good F n s → Good F n (batched F list s rs m k .after)
-  a-call-leaves-good-tables n s rs m k g = go (ℕ-discrete (why F list s rs m k) 0)
+  pub a-call-leaves-good-tables : (s : Tables) (rs : List Record) (m k : ℕ) → Good F s
+      → Good F (batched F list s rs m k .after)
+  a-call-leaves-good-tables s rs m k g = go (ℕ-discrete (why F list s rs m k) 0)
     where
-      go : Dec (why F list s rs m k ≡ 0) → Good F n (batched F list s rs m k .after)
-      go (yes e) =
-          let own = roomFor (length (s .tasks)) (length (s .promises)) in
-          subst (λ (o : CallOutcome). Good F n (o .after)) (sym (taken-all F list s rs m k e)) (good-after own n s rs (call-good F s (length rs) m k e apart) g)
-      go (no h) = subst (λ (o : CallOutcome). Good F n (o .after)) (sym (refused-all F list s rs m k h)) g
+      all-taken : Good F (lastTables s (oneByOne F (roomOf s) list s rs))
+      all-taken =
+          subst (λ (l : List Record). Good F (lastTables s (oneByOne F (roomOf s) list s l)))
+          (take-all (length rs) rs (omega arith)) (each-finds-good-tables (roomOf s) s g rs (length rs))
+
+      go : Dec (why F list s rs m k ≡ 0) → Good F (batched F list s rs m k .after)
+      go (yes e) = subst (λ (o : CallOutcome). Good F (o .after)) (sym (taken-all F list s rs m k e)) all-taken
+      go (no h) = subst (λ (o : CallOutcome). Good F (o .after)) (sym (refused-all F list s rs m k h)) g
 
 -- ---- demand 3 after steps and calls
 
-module _ (F : Form) (apart : Apart F) (n : ℕ) where
-  reached-good : {s : Tables} → Reached F n s → Good F n s
-  reached-good (from-fresh T P some most most′ room) = fresh-good T P some F apart n most most′ room
-  reached-good (by-step {s = s} x r) = good-step F apart n s x (reached-good r)
-  reached-good (by-call {s = s} list rs m k r) = a-call-leaves-good-tables F apart list n s rs m k (reached-good r)
+module _ (F : Form) (apart : Apart F) where
+  reached-good : {s : Tables} → Reached F s → Good F s
+  reached-good (from-fresh T P some most most′) = fresh-good T P some F apart most most′
+  reached-good (by-step {s = s} n x r) = good-step F apart n s x (reached-good r)
+  reached-good (by-call {s = s} list rs m k r) = a-call-leaves-good-tables F apart list s rs m k (reached-good r)
 
-  pub demand-3-after-calls : {s : Tables} → Reached F n s → Demand3 F n s
-  demand-3-after-calls {s} r = demand-3-of F apart n s (reached-good r)
+  pub demand-3-after-calls : {s : Tables} → Reached F s → Demand3 F s
+  demand-3-after-calls {s} r = demand-3-of F apart s (reached-good r)
 
 -- ---- any two outcomes that the contract of a call allows coincide
 
