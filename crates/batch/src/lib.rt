@@ -1,7 +1,7 @@
 // A whole scan's steps in one call. The tables are tested once for the call; that a step leaves sound tables sound is a theorem.
 use batch_record::Record;
 use batch_record::turn;
-use table_sound::is_sound;
+use table_sound::tables_pass;
 use words::Limit;
 use words::room_for;
 use words::sizes_in_bounds;
@@ -53,7 +53,7 @@ fn call_refusal(
     ensures { λ r. ⌜ r ≡ first (callRows small (tablesOf (now (tasks .entry)) (now (promises .entry))) records report answers) ⌝ }
 {
     if has_room(tasks.len(), promises.len(), records, report, answers) {
-        if is_sound(tasks, promises) {
+        if tables_pass(tasks, promises) {
             return 0;
         }
         return 2;

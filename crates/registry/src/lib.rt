@@ -12,16 +12,16 @@ ghost use mathlib.Core.Path.{_≡_};
 ghost use lib.ListN.{length};
 ghost use Rattle.words.specs.Words.{small};
 ghost use Rattle.rules.specs.Tables.{tables as tablesOf};
-ghost use Rattle.rules.specs.Sound.{soundTest};
+ghost use Rattle.rules.specs.Sound.{isSound};
 ghost use Rattle.rules.specs.Steps.{step-new, step-set, step-get, step-async, step-end};
 ghost use Rattle.rules.specs.Contracts.{Freshens};
 ghost use Rattle.batch_words.specs.Flat.{flatly, Flats};
 ghost use Rattle.registry.specs.Exports.{ExportsStep};
 
-// Whether the tables are sound.
+// Whether the tables are sound; those that are too short or too long are not.
 #[no_mangle]
 pub extern "C" fn registry_is_sound(tasks: &[u16], promises: &[u16]) -> bool
-    ensures { λ r. ⌜ r ≡ soundTest (small .base) (tablesOf (now (tasks .entry)) (now (promises .entry))) ⌝ }
+    ensures { λ r. ⌜ r ≡ isSound small (tablesOf (now (tasks .entry)) (now (promises .entry))) ⌝ }
 {
     table_sound::is_sound(tasks, promises)
 }

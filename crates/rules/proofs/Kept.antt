@@ -10,9 +10,10 @@ use native.Mathlib.Decide.{ℕ-discrete, decLt}
 use lib.ListN.{length, getD, replicate, length-set, length-replicate, getD-replicate, List·getD-eq-default}
 use lib.Seq.{getD-set-same, getD-set-other}
 use Rattle.words.specs.Words.{Form, unusedWord, readyWord, firstWait, waitsOn, firstOwned}
+use Rattle.words.proofs.BoolLaws.{and-yes, and-split}
 use Rattle.rules.specs.Tables.{Tables, tables, sizesFit, roomOf, taskAt, Live, fresh}
 use Rattle.rules.specs.Chains.{view}
-use Rattle.rules.specs.Sound.{TaskWord, unused, ready, unmade, SoundView, Sound}
+use Rattle.rules.specs.Sound.{TaskWord, unused, ready, unmade, SoundView, Sound, soundTest, isSound}
 use Rattle.rules.specs.Refusals.{Row, first, tableRows, actorRows}
 use Rattle.rules.specs.Steps.{Step, actor, raw, step, LentStep, run}
 use Rattle.rules.specs.Demands.{Apart, Good, Refusal}
@@ -31,6 +32,16 @@ module _ (F : Form) (apart : Apart F) where
   -- the owned words of tables whose sizes fit end before the blamed ones begin
   pub fits : (s : Tables) → sizesFit F s ≡ true → firstOwned + length (s .tasks) ≤ F .base
   fits s b = omega (arith, apart, sizesFit-true F s b .tasks)
+
+  -- the test of tables of any lengths finds exactly the good ones
+  pub isSound-good : (s : Tables) → isSound F s ≡ true → Good F s
+  isSound-good s e =
+      let (sizes, passes) = and-split (sizesFit F s) (soundTest (F .base) s) e in
+      record { sizes = sizes; sound = soundTest-sound (F .base) s (fits s sizes) passes }
+
+  pub good-isSound : (s : Tables) → Good F s → isSound F s ≡ true
+  good-isSound s g =
+      and-yes (sizesFit F s) (soundTest (F .base) s) (g .sizes) (sound-soundTest (F .base) s (g .sound))
 
   module _ (n : ℕ) where
     -- where refusals 1 and 2 are not given the tables are good, and the report has room

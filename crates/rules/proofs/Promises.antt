@@ -14,7 +14,7 @@ use Rattle.words.specs.Lists.{In}
 use Rattle.rules.specs.Tables.{Tables, tables, sizesFit, roomOf, taskAt, promiseAt, Live, liveTasks, closed}
 use Rattle.rules.specs.Tables.{blamedTask, fresh}
 use Rattle.rules.specs.Chains.{Chain, waits, view}
-use Rattle.rules.specs.Sound.{Sound, soundTest}
+use Rattle.rules.specs.Sound.{Sound, soundTest, isSound}
 use Rattle.rules.specs.Answers.{laid, numberOf, valuesOf, wordCount, answerOf, SameWords, refusedAtWith}
 use Rattle.rules.specs.Refusals.{tableRows, entryRows}
 use Rattle.rules.specs.Steps.{Step, step-new, step-set, step-get, step-async, step-end, Outcome, outcome}
@@ -60,6 +60,13 @@ test-means-sound B s fits e = test.soundTest-sound B s fits e
 
 pub sound-passes-test : (B : ℕ) (s : Tables) → Sound B s → soundTest B s ≡ true
 sound-passes-test B s sd = test.sound-soundTest B s sd
+
+-- the public test, of tables of any lengths, finds exactly those that are within their bounds and sound
+pub is-sound-means-good : (F : Form) → Apart F → (s : Tables) → isSound F s ≡ true → Good F s
+is-sound-means-good = kept.isSound-good
+
+pub good-is-sound : (F : Form) → Apart F → (s : Tables) → Good F s → isSound F s ≡ true
+good-is-sound = kept.good-isSound
 
 -- "All-zero tables are sound and have no live task."
 pub all-zero-are-sound : (B T P : ℕ) → firstOwned ≤ B

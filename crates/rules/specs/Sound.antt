@@ -7,6 +7,7 @@
 --   comes n T s v                     following owners from v comes to a ready task in fewer than n hops
 --   comesInTime s v                   the same in fewer hops than there are tasks
 --   taskPasses s v, promisePasses B s q, soundTest B s   the test
+--   isSound F s                       the test, of tables of any lengths
 -- Assumes nothing.
 use mathlib.Core.Path.{_≡_}
 use mathlib.Core.Bool.{Bool, true, false, cond, _&&_, _||_}
@@ -14,9 +15,9 @@ use Prim.Native.Nat.{ℕ, zero, suc, _-_, _<_}
 use lib.Dec.{eqb, leb, ltb}
 use lib.ListN.{length}
 use Rattle.words.specs.Words.{unusedWord, readyWord, endedWord, firstWait, waitsOn, unmadeWord, setWord, firstOwned}
-use Rattle.words.specs.Words.{ownedBy, blamedOn}
+use Rattle.words.specs.Words.{Form, ownedBy, blamedOn}
 use Rattle.words.specs.Lists.{allBelow}
-use Rattle.rules.specs.Tables.{Tables, taskAt, promiseAt, live, Live, waiting}
+use Rattle.rules.specs.Tables.{Tables, sizesFit, taskAt, promiseAt, live, Live, waiting}
 use Rattle.rules.specs.Chains.{View, view, awaitedBy, graph, Comes}
 
 -- ---- the statement
@@ -97,3 +98,7 @@ promisePasses B s q = promiseWordPasses B s (promiseAt s q)
 
 unfoldable pub soundTest : ℕ → Tables → Bool
 soundTest B s = allBelow (length (s .tasks)) (taskPasses s) && allBelow (length (s .promises)) (promisePasses B s)
+
+-- the test of tables of any lengths: those whose sizes are outside their bounds are not sound
+abbrev pub isSound : Form → Tables → Bool
+isSound F s = sizesFit F s && soundTest (F .base) s

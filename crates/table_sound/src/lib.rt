@@ -14,7 +14,7 @@ ghost use Rattle.words.specs.Lists.{allBelow};
 ghost use Rattle.rules.specs.Tables.{tables, inBounds, live as liveWord};
 ghost use Rattle.rules.specs.Chains.{viewOf};
 ghost use Rattle.rules.specs.Sound.{hop as hopOf, hopOwner, comes as comesTo};
-ghost use Rattle.rules.specs.Sound.{taskPasses, promisePasses, promiseWordPasses, soundTest};
+ghost use Rattle.rules.specs.Sound.{taskPasses, promisePasses, promiseWordPasses, soundTest, isSound};
 ghost use Rattle.rules.specs.Refusals.{first, tableRows};
 ghost use Rattle.table_sound.specs.Hops.{hopRead};
 
@@ -190,11 +190,21 @@ fn promises_pass(tasks: &[u16], promises: &[u16]) -> bool
     good
 }
 
-// Whether the tables are sound.
-pub fn is_sound(tasks: &[u16], promises: &[u16]) -> bool
+// Whether the words of the tables pass: within their bounds, tables are sound exactly then.
+pub fn tables_pass(tasks: &[u16], promises: &[u16]) -> bool
     ensures { λ r. ⌜ r ≡ soundTest (small .base) (tables (now (tasks .entry)) (now (promises .entry))) ⌝ }
 {
     tasks_pass(tasks, promises) & promises_pass(tasks, promises)
+}
+
+// Whether the tables are sound, whatever their lengths: those that are too short or too long are not.
+pub fn is_sound(tasks: &[u16], promises: &[u16]) -> bool
+    ensures { λ r. ⌜ r ≡ isSound small (tables (now (tasks .entry)) (now (promises .entry))) ⌝ }
+{
+    if sizes_in_bounds(tasks.len(), promises.len()) {
+        return tables_pass(tasks, promises);
+    }
+    false
 }
 
 // Whether the lengths of the tables and the report's length are within their bounds: the one test of lengths.
@@ -212,7 +222,7 @@ pub fn table_refusal(tasks: &[u16], promises: &[u16], report: usize) -> u16
     ensures { λ r. ⌜ r ≡ first (tableRows small report (tables (now (tasks .entry)) (now (promises .entry)))) ⌝ }
 {
     if in_bounds(tasks, promises, report) {
-        if is_sound(tasks, promises) {
+        if tables_pass(tasks, promises) {
             return 0;
         }
         return 2;

@@ -1,3 +1,4 @@
+-- `batch::call_refusal` meets its contract: each return knows which of the two rows applies. Assumes nothing.
 use Rattle.rules.specs.Refusals.{first}
 use borrow.Author.Needs.{needs}
 use Rattle.batch.proofs.call_refusal.Statement.{statement}
@@ -6,16 +7,20 @@ use Rattle.batch.proofs.call_refusal.Tie as tie
 has-room-requires : tie.Need-has-room-requires
 has-room-requires c κs = search needs
 
-is-sound-requires : tie.Need-is-sound-requires
-is-sound-requires c κs = search needs
+tables-pass-requires : tie.Need-tables-pass-requires
+tables-pass-requires c κs = search needs
 
 returns : tie.Need-returns
 unfolding first
-returns c = rw (← c .before .before .before .has-room .ensures, c .before .before .if1 .taken, ← c .before .is-sound .ensures, c .if2 .taken)
+returns c =
+    let roomy = c .before .before in
+    rw (← roomy .before .has-room .ensures, roomy .if1 .taken, ← c .before .tables-pass .ensures, c .if2 .taken)
 
 returns-2 : tie.Need-returns-2
 unfolding first
-returns-2 c = rw (← c .before .before .before .has-room .ensures, c .before .before .if1 .taken, ← c .before .is-sound .ensures, c .if2 .left)
+returns-2 c =
+    let roomy = c .before .before in
+    rw (← roomy .before .has-room .ensures, roomy .if1 .taken, ← c .before .tables-pass .ensures, c .if2 .left)
 
 returns-3 : tie.Need-returns-3
 unfolding first
@@ -23,4 +28,4 @@ returns-3 c = rw (← c .before .has-room .ensures, c .if1 .left)
 
 pub call-refusal-spec : {M : Type 1} → statement M
 call-refusal-spec =
-    tie.close (tie.spec has-room-requires is-sound-requires returns returns-2 returns-3)
+    tie.close (tie.spec has-room-requires tables-pass-requires returns returns-2 returns-3)

@@ -1,18 +1,23 @@
--- `table_sound::is_sound` meets its contract: it joins the tests of the two tables. Assumes nothing.
+-- `table_sound::is_sound` meets its contract: the sizes are within their bounds, and then the words decide. Assumes
+-- nothing.
+use Rattle.rules.specs.Tables.{sizesFit}
 use borrow.Author.Needs.{needs}
-use Rattle.rules.specs.Sound.{soundTest}
 use Rattle.table_sound.proofs.is_sound.Statement.{statement}
 use Rattle.table_sound.proofs.is_sound.Tie as tie
 
-tasks-pass-requires : tie.Need-tasks-pass-requires
-tasks-pass-requires c κs = search needs
+sizes-in-bounds-requires : tie.Need-sizes-in-bounds-requires
+sizes-in-bounds-requires c κs = search needs
 
-promises-pass-requires : tie.Need-promises-pass-requires
-promises-pass-requires c κs = search needs
+tables-pass-requires : tie.Need-tables-pass-requires
+tables-pass-requires c κs = search needs
 
 returns : tie.Need-returns
-unfolding soundTest
-returns c = rw (← c .before .tasks-pass .ensures, ← c .promises-pass .ensures)
+unfolding sizesFit
+returns c = rw (← c .before .before .sizes-in-bounds .ensures, c .before .if1 .taken, ← c .tables-pass .ensures)
+
+returns-2 : tie.Need-returns-2
+unfolding sizesFit
+returns-2 c = rw (← c .before .sizes-in-bounds .ensures, c .if1 .left)
 
 pub is-sound-spec : {M : Type 1} → statement M
-is-sound-spec = tie.close (tie.spec tasks-pass-requires promises-pass-requires returns)
+is-sound-spec = tie.close (tie.spec sizes-in-bounds-requires tables-pass-requires returns returns-2)

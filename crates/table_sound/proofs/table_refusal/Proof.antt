@@ -7,20 +7,20 @@ use Rattle.table_sound.proofs.table_refusal.Tie as tie
 in-bounds-requires : tie.Need-in-bounds-requires
 in-bounds-requires c κs = search needs
 
-is-sound-requires : tie.Need-is-sound-requires
-is-sound-requires c κs = search needs
+tables-pass-requires : tie.Need-tables-pass-requires
+tables-pass-requires c κs = search needs
 
 returns : tie.Need-returns
 unfolding first
 returns c =
     let sized = c .before .before in
-    rw (← sized .before .in-bounds .ensures, sized .if1 .taken, ← c .before .is-sound .ensures, c .if2 .taken)
+    rw (← sized .before .in-bounds .ensures, sized .if1 .taken, ← c .before .tables-pass .ensures, c .if2 .taken)
 
 returns-2 : tie.Need-returns-2
 unfolding first
 returns-2 c =
     let sized = c .before .before in
-    rw (← sized .before .in-bounds .ensures, sized .if1 .taken, ← c .before .is-sound .ensures, c .if2 .left)
+    rw (← sized .before .in-bounds .ensures, sized .if1 .taken, ← c .before .tables-pass .ensures, c .if2 .left)
 
 returns-3 : tie.Need-returns-3
 unfolding first
@@ -28,4 +28,4 @@ returns-3 c = rw (← c .before .in-bounds .ensures, c .if1 .left)
 
 pub table-refusal-spec : {M : Type 1} → statement M
 table-refusal-spec =
-    tie.close (tie.spec in-bounds-requires is-sound-requires returns returns-2 returns-3)
+    tie.close (tie.spec in-bounds-requires tables-pass-requires returns returns-2 returns-3)
