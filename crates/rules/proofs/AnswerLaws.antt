@@ -1,5 +1,5 @@
--- Laws of the answers that refuse (specs/Answers.antt, and `stepRefused` and `entryRefused` of specs/Steps.antt), by their cases: such an answer is a refusal and has the
--- number that it was made from. Assumes nothing.
+-- Laws of the answers that refuse (specs/Answers.antt, and `stepRefused` and `entryRefused` of specs/Steps.antt), by
+-- their cases: such an answer is a refusal and has the number that it was made from. Assumes nothing.
 use mathlib.Core.Path.{_≡_, refl, sym, ap, _∙_}
 use mathlib.Core.Logic.{_⊎_, inl, inr, _≢_}
 use mathlib.Core.Bool.{Bool, true, false, cond}
@@ -14,7 +14,8 @@ use Rattle.rules.specs.Answers.{laid, numberOf, valuesOf, accepted, answ
 use Rattle.rules.specs.Steps.{Step, step-new, step-set, step-get, step-async, step-end, stepRefused}
 use Rattle.rules.specs.Demands.{Refusal, plain, placed, blamed, blamed-at}
 use Rattle.rules.specs.declared.Answer.{Answer}
-use Rattle.rules.specs.declared.Answer.the-variants.{Opened, Made, Set, Value, Blamed, Waits, Cycle, Started, Ended, Refused, RefusedAt, RefusedBlamed, RefusedBlamedAt}
+use Rattle.rules.specs.declared.Answer.the-variants.{Opened, Made, Set, Value, Blamed, Waits, Cycle, Started}
+use Rattle.rules.specs.declared.Answer.the-variants.{Ended, Refused, RefusedAt, RefusedBlamed, RefusedBlamedAt}
 
 -- ---- an answer refuses, or it is told by a number from 100 on
 
@@ -27,15 +28,24 @@ pub record Accepted (a : Answer) : Type 0 where
 
 pub accepted-or-refused : (a : Answer) → Accepted a ⊎ Refusal a
 unfolding laid answerOf
-accepted-or-refused Opened = inl (record { from-100 = omega arith; low = omega arith; told = refl; read = refl; accepts = refl })
-accepted-or-refused Made = inl (record { from-100 = omega arith; low = omega arith; told = refl; read = refl; accepts = refl })
-accepted-or-refused (Set n) = inl (record { from-100 = omega arith; low = omega arith; told = refl; read = refl; accepts = refl })
-accepted-or-refused Value = inl (record { from-100 = omega arith; low = omega arith; told = refl; read = refl; accepts = refl })
-accepted-or-refused (Blamed b) = inl (record { from-100 = omega arith; low = omega arith; told = refl; read = refl; accepts = refl })
-accepted-or-refused (Waits k) = inl (record { from-100 = omega arith; low = omega arith; told = refl; read = refl; accepts = refl })
-accepted-or-refused (Cycle k) = inl (record { from-100 = omega arith; low = omega arith; told = refl; read = refl; accepts = refl })
-accepted-or-refused Started = inl (record { from-100 = omega arith; low = omega arith; told = refl; read = refl; accepts = refl })
-accepted-or-refused (Ended m n) = inl (record { from-100 = omega arith; low = omega arith; told = refl; read = refl; accepts = refl })
+accepted-or-refused Opened =
+    inl (record { from-100 = omega arith; low = omega arith; told = refl; read = refl; accepts = refl })
+accepted-or-refused Made =
+    inl (record { from-100 = omega arith; low = omega arith; told = refl; read = refl; accepts = refl })
+accepted-or-refused (Set n) =
+    inl (record { from-100 = omega arith; low = omega arith; told = refl; read = refl; accepts = refl })
+accepted-or-refused Value =
+    inl (record { from-100 = omega arith; low = omega arith; told = refl; read = refl; accepts = refl })
+accepted-or-refused (Blamed b) =
+    inl (record { from-100 = omega arith; low = omega arith; told = refl; read = refl; accepts = refl })
+accepted-or-refused (Waits k) =
+    inl (record { from-100 = omega arith; low = omega arith; told = refl; read = refl; accepts = refl })
+accepted-or-refused (Cycle k) =
+    inl (record { from-100 = omega arith; low = omega arith; told = refl; read = refl; accepts = refl })
+accepted-or-refused Started =
+    inl (record { from-100 = omega arith; low = omega arith; told = refl; read = refl; accepts = refl })
+accepted-or-refused (Ended m n) =
+    inl (record { from-100 = omega arith; low = omega arith; told = refl; read = refl; accepts = refl })
 accepted-or-refused (Refused r) = inr (plain r)
 accepted-or-refused (RefusedAt r i) = inr (placed r i)
 accepted-or-refused (RefusedBlamed b) = inr (blamed b)
@@ -43,7 +53,8 @@ accepted-or-refused (RefusedBlamedAt i b) = inr (blamed-at i b)
 
 -- ---- with a task to blame
 
-pub with-by : (Q : Answer → Type 0) (b r : ℕ) → (r ≡ 17 → Q (RefusedBlamed b)) → (r ≢ 17 → Q (Refused r)) → Q (refusedWith b r)
+pub with-by : (Q : Answer → Type 0) (b r : ℕ) → (r ≡ 17 → Q (RefusedBlamed b)) → (r ≢ 17 → Q (Refused r))
+    → Q (refusedWith b r)
 unfolding refusedWith
 with-by Q b r told other = go (eqb r 17) refl
   where
@@ -51,7 +62,8 @@ with-by Q b r told other = go (eqb r 17) refl
     go true e = told (eqb-true r 17 e)
     go false e = other (eqb-false r 17 e)
 
-pub at-with-by : (Q : Answer → Type 0) (b i r : ℕ) → (r ≡ 17 → Q (RefusedBlamedAt i b)) → (r ≢ 17 → Q (RefusedAt r i)) → Q (refusedAtWith b i r)
+pub at-with-by : (Q : Answer → Type 0) (b i r : ℕ) → (r ≡ 17 → Q (RefusedBlamedAt i b)) → (r ≢ 17 → Q (RefusedAt r i))
+    → Q (refusedAtWith b i r)
 unfolding refusedAtWith
 at-with-by Q b i r told other = go (eqb r 17) refl
   where
@@ -75,12 +87,15 @@ unfolding laid
 at-with-task b i r h = at-with-by (λ (a : Answer). getD (valuesOf a) 1 0 ≡ b) b i r (λ e. refl) (λ n. absurd (n h))
 
 -- the same answer has the same place and the same number, and, by 17, the same task
-pub at-with-same : {b i r b′ i′ r′ : ℕ} → refusedAtWith b i r ≡ refusedAtWith b′ i′ r′ → (i ≡ i′) × (r ≡ r′) × (r ≡ 17 → b ≡ b′)
+pub at-with-same : {b i r b′ i′ r′ : ℕ} → refusedAtWith b i r ≡ refusedAtWith b′ i′ r′
+    → (i ≡ i′) × (r ≡ r′) × (r ≡ 17 → b ≡ b′)
 at-with-same {b} {i} {r} {b′} {i′} {r′} e =
     let same : r ≡ r′ = sym (at-with-number b i r) ∙ ap numberOf e ∙ at-with-number b′ i′ r′ in (
       sym (at-with-place b i r) ∙ ap (λ (a : Answer). getD (valuesOf a) 0 0) e ∙ at-with-place b′ i′ r′,
       same,
-      λ h. sym (at-with-task b i r h) ∙ ap (λ (a : Answer). getD (valuesOf a) 1 0) e ∙ at-with-task b′ i′ r′ (sym same ∙ h),
+      λ h.
+          sym (at-with-task b i r h) ∙ ap (λ (a : Answer). getD (valuesOf a) 1 0) e
+          ∙ at-with-task b′ i′ r′ (sym same ∙ h),
     )
 
 pub at-with-told : (b i r : ℕ) → r ≡ 17 → refusedAtWith b i r ≡ RefusedBlamedAt i b
@@ -91,7 +106,8 @@ at-with-plain b i r n = at-with-by (λ (a : Answer). a ≡ RefusedAt r i) b i r 
 
 -- ---- the answer that refuses a step by a number
 
-pub stepRefused-by : (Q : Answer → Type 0) (F : Form) (s : Tables) (x : Step) (r : ℕ) → ((b : ℕ) → r ≡ 17 → Q (RefusedBlamed b)) → Q (Refused r) → Q (stepRefused F s x r)
+pub stepRefused-by : (Q : Answer → Type 0) (F : Form) (s : Tables) (x : Step) (r : ℕ)
+    → ((b : ℕ) → r ≡ 17 → Q (RefusedBlamed b)) → Q (Refused r) → Q (stepRefused F s x r)
 stepRefused-by Q F s (step-new t p) r told other = other
 stepRefused-by Q F s (step-set t p) r told other = with-by Q _ r (told _) (λ n. other)
 stepRefused-by Q F s (step-get t p) r told other = other

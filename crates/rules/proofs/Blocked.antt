@@ -1,5 +1,5 @@
--- A get blocks until the promise is closed (000, Definition 2.1; 001, section 3.2, rule 3): in any tables a step leaves the word of a task that waits on p, or closes
--- p and makes the task ready. By the five steps in turn. Assumes nothing.
+-- A get blocks until the promise is closed (000, Definition 2.1; 001, section 3.2, rule 3): in any tables a step leaves
+-- the word of a task that waits on p, or closes p and makes the task ready. By the five steps in turn. Assumes nothing.
 use mathlib.Core.Path.{_≡_, ap, _∙_}
 use mathlib.Core.Logic.{_⊎_, inl, inr, _≢_}
 use mathlib.Core.Bool.{true}
@@ -36,11 +36,16 @@ module _ (F : Form) (s : Tables) (v p : ℕ) (w : taskAt s v ≡ waitsOn p) wher
   not-waiter t (inr r) e = omega (arith, ap (taskAt s) e)
 
   by-set : (q : ℕ) → q < length (s .promises) → Dec (p ≡ q) → Blocked (withSet s q)
-  by-set q h (yes y) = inr (set-hit s q v (w ∙ ap waitsOn y), closed-set (F .base) _ (ap (promiseAt (withSet s q)) y ∙ getD-set-same (s .promises) q setWord 0 h))
+  by-set q h (yes y) =
+      inr (
+        set-hit s q v (w ∙ ap waitsOn y),
+        closed-set (F .base) _ (ap (promiseAt (withSet s q)) y ∙ getD-set-same (s .promises) q setWord 0 h),
+      )
   by-set q h (no y) = inl (set-miss s q v (λ (u : taskAt s v ≡ waitsOn q). y (omega arith)) ∙ w)
 
   by-end : (t : ℕ) → v ≢ t → Dec (promiseAt s p ≡ ownedBy t) → Blocked (withEnded (F .base) s t)
-  by-end t h (yes o) = inr (end-hit (F .base) s t v h (p, w, o), closed-blamed (F .base) _ t (blame-hit (F .base) s t p o))
+  by-end t h (yes o) =
+      inr (end-hit (F .base) s t v h (p, w, o), closed-blamed (F .base) _ t (blame-hit (F .base) s t p o))
   by-end t h (no n) = inl (end-miss (F .base) s t v h (λ k. other (k .0) (k .1) (k .2)) ∙ w)
     where
       other : (q : ℕ) → taskAt s v ≡ waitsOn q → promiseAt s q ≡ ownedBy t → ⊥
@@ -50,7 +55,8 @@ module _ (F : Form) (s : Tables) (v p : ℕ) (w : taskAt s v ≡ waitsOn p) wher
   by-step nothing = inl w
   by-step (made a b c) = inl w
   by-step (was-set {p = q} a b c) = by-set q b (ℕ-discrete p q)
-  by-step (waited {t = t} {p = q} k a b m e) = inl (getD-set-other (s .tasks) t v (waitsOn q) 0 (not-waiter t (inl (a .ready))) ∙ w)
+  by-step (waited {t = t} {p = q} k a b m e) =
+      inl (getD-set-other (s .tasks) t v (waitsOn q) 0 (not-waiter t (inl (a .ready))) ∙ w)
   by-step (began {c = c} a b d good) = inl (getD-set-other (s .tasks) c v readyWord 0 (not-waiter c (inr d)) ∙ w)
   by-step (has-ended {t = t} a) = by-end t (not-waiter t (inl (a .ready))) (ℕ-discrete (promiseAt s p) (ownedBy t))
 

@@ -1,5 +1,5 @@
--- Laws of specs/Tables.antt: the test of lengths, as a test and as facts, and that it asks for nothing but lengths; what a
--- live task's word is; a part put back. Assumes nothing.
+-- Laws of specs/Tables.antt: the test of lengths, as a test and as facts, and that it asks for nothing but lengths;
+-- what a live task's word is; a part put back. Assumes nothing.
 use Prim.Native.Nat.{ℕ, _≤_}
 use mathlib.Core.Path.{_≡_, refl, ap₂, _∙_}
 use mathlib.Core.Logic.{_⊎_, inl, inr}
@@ -11,19 +11,8 @@ use borrow.Author.Tests.{eqb-true, eq-eqb, leb-true, le-leb}
 use Rattle.words.specs.Words.{Form, readyWord, firstWait}
 use Rattle.words.proofs.BoolLaws.{and-split, and-yes, or-split, or-left, or-right}
 use Rattle.words.proofs.WordLaws.{Sizes, sizesInBounds-true, sizesInBounds-of}
-use Rattle.rules.specs.Tables.{
-  Tables,
-  tables,
-  withTasks,
-  withPromises,
-  withWords,
-  partOf,
-  putBack,
-  sizesFit,
-  roomOf,
-  inBounds,
-  Live,
-}
+use Rattle.rules.specs.Tables.{Tables, tables, withTasks, withPromises, withWords, partOf, putBack, sizesFit}
+use Rattle.rules.specs.Tables.{roomOf, inBounds, Live}
 
 abbrev pub Fitting : Form → Tables → Type 0
 Fitting F s = Sizes F (length (s .tasks)) (length (s .promises))
@@ -79,7 +68,8 @@ long-tasks s e = record { tasks = e; promises = refl }
 pub long-promises : (s : Tables) {ps : List ℕ} → length ps ≡ length (s .promises) → AsLong (withPromises s ps) s
 long-promises s e = record { tasks = refl; promises = e }
 
-pub long-words : (s : Tables) {ts ps : List ℕ} → length ts ≡ length (s .tasks) → length ps ≡ length (s .promises) → AsLong (withWords s ts ps) s
+pub long-words : (s : Tables) {ts ps : List ℕ} → length ts ≡ length (s .tasks) → length ps ≡ length (s .promises)
+    → AsLong (withWords s ts ps) s
 long-words s e f = record { tasks = e; promises = f }
 
 pub as-long-too : {s″ s′ s : Tables} → AsLong s″ s′ → AsLong s′ s → AsLong s″ s

@@ -1,5 +1,5 @@
--- The rules give each row of the proved set (specs/ProvedSet.antt), and of the sets of later requests (specs/LaterSets.antt),
--- by computation. Assumes nothing.
+-- The rules give each row of the proved set (specs/ProvedSet.antt), and of the sets of later requests
+-- (specs/LaterSets.antt), by computation. Assumes nothing.
 use mathlib.Core.Path.{_≡_, refl}
 use mathlib.Core.List.{map}
 use Rattle.words.specs.Words.{sizesInBounds}
@@ -13,13 +13,16 @@ use Rattle.rules.specs.ProvedSet.{provedSet, taken, expected}
 use Rattle.rules.specs.LaterSets.{blamedSet, ringSet, takenUntested}
 
 pub proved-set : map taken provedSet ≡ map expected provedSet
-unfolding sizesInBounds sizesFit inBounds allBelow is places changed hop comes taskPasses promisePasses soundTest first differs entryRefusal firstBad given awaits walk pairs followed got guarded started refusedWith refusedAtWith
+unfolding sizesInBounds sizesFit inBounds allBelow is places changed hop comes taskPasses promisePasses soundTest first
+    differs entryRefusal firstBad given awaits walk pairs followed got guarded started refusedWith refusedAtWith
 proved-set = refl
 
 pub blamed-set : map taken blamedSet ≡ map expected blamedSet
-unfolding sizesInBounds sizesFit inBounds allBelow is places changed hop comes taskPasses promisePasses soundTest first differs entryRefusal firstBad given awaits walk pairs followed got guarded started refusedWith refusedAtWith
+unfolding sizesInBounds sizesFit inBounds allBelow is places changed hop comes taskPasses promisePasses soundTest first
+    differs entryRefusal firstBad given awaits walk pairs followed got guarded started refusedWith refusedAtWith
 blamed-set = refl
 
 pub ring-set : map takenUntested ringSet ≡ map expected ringSet
-unfolding sizesInBounds sizesFit inBounds allBelow is places changed hop comes taskPasses promisePasses soundTest first differs entryRefusal firstBad given awaits walk pairs followed got guarded started refusedWith refusedAtWith
+unfolding sizesInBounds sizesFit inBounds allBelow is places changed hop comes taskPasses promisePasses soundTest first
+    differs entryRefusal firstBad given awaits walk pairs followed got guarded started refusedWith refusedAtWith
 ring-set = refl

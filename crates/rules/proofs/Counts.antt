@@ -1,4 +1,5 @@
--- How many words a step reports: as many as its answer counts, and at most P + 2T, whatever the tables hold. Assumes nothing.
+-- How many words a step reports: as many as its answer counts, and at most P + 2T, whatever the tables hold. Assumes
+-- nothing.
 use Prim.Native.Nat.{ℕ, zero, suc, _+_, _*_, _-_, _≤_, _<_}
 use mathlib.Core.Path.{_≡_, refl}
 use mathlib.Core.List.{List, []}
@@ -13,7 +14,9 @@ use Rattle.rules.specs.Tables.{Tables, promiseAt}
 use Rattle.rules.specs.Chains.{View, view, awaitedBy, ownerOf}
 use Rattle.rules.specs.Sound.{Hop, ready, lost, to, hop}
 use Rattle.rules.specs.Answers.{laid, wordCount}
-use Rattle.rules.specs.Steps.{Step, step-new, step-set, step-get, step-async, step-end, Outcome, outcome, Found, astray, back, free, walk, walkBy, walkFrom, pairs, awaits, followed, got, stepRefused, entryRefused, effect, raw, step}
+use Rattle.rules.specs.Steps.{Step, step-new, step-set, step-get, step-async, step-end, Outcome, outcome, Found}
+use Rattle.rules.specs.Steps.{astray, back, free, walk, walkBy, walkFrom, pairs, awaits, followed, got}
+use Rattle.rules.specs.Steps.{stepRefused, entryRefused, effect, raw, step}
 use Rattle.rules.specs.declared.Answer.{Answer}
 use Rattle.rules.specs.declared.Answer.the-variants.{Value, Blamed}
 use Rattle.rules.proofs.GuardLaws.{guarded-by, got-cases, started-by}
@@ -38,7 +41,8 @@ unfolding walk
 walk-reached zero T s t u k h = omega arith
 walk-reached (suc n) T s t u k h = go (eqb u t) (hop T s u) (λ x. walk-reached n T s t x (suc k) (omega arith))
   where
-    go : (b : Bool) (j : Hop) → ((x : ℕ) → reached (walk n T s t x (suc k)) < suc k + n) → reached (walkBy b j k (λ x. walk n T s t x (suc k))) < k + suc n
+    go : (b : Bool) (j : Hop) → ((x : ℕ) → reached (walk n T s t x (suc k)) < suc k + n)
+        → reached (walkBy b j k (λ x. walk n T s t x (suc k))) < k + suc n
     go true j rec = omega arith
     go false ready rec = omega arith
     go false lost rec = omega arith
@@ -54,7 +58,8 @@ refused-counted : (F : Form) (s : Tables) (x : Step) (r : ℕ) → Counted (outc
 unfolding laid
 refused-counted F s x r = stepRefused-by (λ (a : Answer). 0 ≡ wordCount a) F s x r (λ b e. refl) refl
 
-entry-counted : (B : ℕ) (s : Tables) (t : ℕ) (list : List ℕ) (i : ℕ) → Counted (outcome (entryRefused B s t list i) s [])
+entry-counted : (B : ℕ) (s : Tables) (t : ℕ) (list : List ℕ) (i : ℕ)
+    → Counted (outcome (entryRefused B s t list i) s [])
 unfolding laid
 entry-counted B s t list i = at-with-by (λ (a : Answer). 0 ≡ wordCount a) _ i _ (λ e. refl) (λ n. refl)
 
@@ -62,9 +67,16 @@ effect-counted : (F : Form) (s : Tables) (x : Step) → Counted (effect F s x)
 unfolding laid
 effect-counted F s (step-new t p) = refl
 effect-counted F s (step-set t p) = omega arith
-effect-counted F s (step-get t p) = got-cases Counted (F .base) s t p (promiseAt s p) refl (λ b. refl) (λ k. omega (arith, pairs-length k (view s) t p)) (λ k. refl)
-effect-counted F s (step-async t c list) = started-by Counted (F .base) s t c list _ (λ h. entry-counted (F .base) s t list _) (λ h. refl)
-effect-counted F s (step-end t) = omega (arith, length-append (places (is (ownedBy t)) 0 (s .promises)) (places (awaits (s .promises) (ownedBy t)) 0 (s .tasks)))
+effect-counted F s (step-get t p) =
+    got-cases Counted (F .base) s t p (promiseAt s p) refl (λ b. refl) (λ k. omega (arith, pairs-length k (view s) t p))
+    (λ k. refl)
+effect-counted F s (step-async t c list) =
+    started-by Counted (F .base) s t c list _ (λ h. entry-counted (F .base) s t list _) (λ h. refl)
+effect-counted F s (step-end t) =
+    omega (
+      arith,
+      length-append (places (is (ownedBy t)) 0 (s .promises)) (places (awaits (s .promises) (ownedBy t)) 0 (s .tasks)),
+    )
 
 pub raw-counted : (F : Form) (s : Tables) (x : Step) → Counted (raw F s x)
 raw-counted F s x = guarded-by Counted _ _ s _ (λ m. refused-counted F s x _) (λ z. effect-counted F s x)
@@ -81,9 +93,12 @@ module _ (F : Form) (s : Tables) where
 
   got-room : (t p w : ℕ) → HasRoom (got (F .base) s t p w)
   unfolding got followed
-  got-room t p w = go (eqb w setWord) (leb (F .base) w) (walkFrom s t (w - firstOwned)) (walk-reached (length (s .tasks)) (length (s .tasks)) (view s) t (w - firstOwned) 1 (omega arith))
+  got-room t p w =
+      go (eqb w setWord) (leb (F .base) w) (walkFrom s t (w - firstOwned))
+      (walk-reached (length (s .tasks)) (length (s .tasks)) (view s) t (w - firstOwned) 1 (omega arith))
     where
-      go : (x y : Bool) (f : Found) → reached f < 1 + length (s .tasks) → HasRoom (cond x (outcome Value s []) (cond y (outcome (Blamed (w - F .base)) s []) (followed s t p f)))
+      go : (x y : Bool) (f : Found) → reached f < 1 + length (s .tasks)
+          → HasRoom (cond x (outcome Value s []) (cond y (outcome (Blamed (w - F .base)) s []) (followed s t p f)))
       go true y f h = omega arith
       go false true f h = omega arith
       go false false (back k) h = omega (arith, pairs-length k (view s) t p)
@@ -95,7 +110,13 @@ module _ (F : Form) (s : Tables) where
   effect-room (step-set t p) = omega (arith, places-length (is (waitsOn p)) 0 (s .tasks))
   effect-room (step-get t p) = got-room t p (promiseAt s p)
   effect-room (step-async t c list) = started-by HasRoom (F .base) s t c list _ (λ h. omega arith) (λ h. omega arith)
-  effect-room (step-end t) = rw length-append (omega (arith, places-length (is (ownedBy t)) 0 (s .promises), places-length (awaits (s .promises) (ownedBy t)) 0 (s .tasks)))
+  effect-room (step-end t) =
+      rw length-append
+      (omega (
+        arith,
+        places-length (is (ownedBy t)) 0 (s .promises),
+        places-length (awaits (s .promises) (ownedBy t)) 0 (s .tasks),
+      ))
 
   pub raw-room : (x : Step) → HasRoom (raw F s x)
   raw-room x = guarded-by HasRoom _ _ s _ (λ m. omega arith) (λ z. effect-room x)

@@ -1,5 +1,6 @@
--- Chains over any graph of waits: a task has one chain, nobody stands on it twice, and what a step of one task leaves of the others' chains. No words and no
--- tables here: whatever later stands behind a wait, these laws stay. Assumes nothing.
+-- Chains over any graph of waits: a task has one chain, nobody stands on it twice, and what a step of one task leaves
+-- of the others' chains. No words and no tables here: whatever later stands behind a wait, these laws stay. Assumes
+-- nothing.
 use mathlib.Core.Path.{_≡_, refl, sym, ap, ap₂, subst, _∙_}
 use mathlib.Core.Logic.{_⊎_, inl, inr, _≢_}
 use mathlib.Core.List.{List, [], _∷_, _++_}
@@ -38,7 +39,8 @@ module _ (g : Graph) where
   on-chain (link k c) (pop i) = on-chain c i
 
 -- a chain stands in any graph that has its links and its end
-pub chain-map : (g g′ : Graph) → ((v : ℕ) → g .ready v → g′ .ready v) → ((v w u : ℕ) → g .link v w u → g′ .link v w u) → {v : ℕ} {l : List ℕ} → Chain g v l → Chain g′ v l
+pub chain-map : (g g′ : Graph) → ((v : ℕ) → g .ready v → g′ .ready v) → ((v w u : ℕ) → g .link v w u → g′ .link v w u)
+    → {v : ℕ} {l : List ℕ} → Chain g v l → Chain g′ v l
 chain-map g g′ r k (here h) = here (r _ h)
 chain-map g g′ r k (link h c) = link (k _ _ _ h) (chain-map g g′ r k c)
 
@@ -68,7 +70,8 @@ module _ (g : Graph) (d : Det g) where
   ready-is-end (link k c) top q = absurd (d .not-both _ _ _ q k)
   ready-is-end (link k c) (pop i) q = ready-is-end c i q
 
--- What a step of the ready task t does to the graph at least: others stay ready, and each link that is not to t stays with its word.
+-- What a step of the ready task t does to the graph at least: others stay ready, and each link that is not to t stays
+-- with its word.
 pub record Frame (g g′ : Graph) (t : ℕ) : Type 0 where
   pub acts : g .ready t
   pub stay : (v : ℕ) → v ≢ t → g .ready v → g′ .ready v
@@ -86,7 +89,8 @@ module _ (g g′ : Graph) (t : ℕ) (d : Det g) (f : Frame g g′ t) where
   chain-stays (link k (link k′ c)) h = link (f .keep _ _ _ (waits-not-acts k′) k) (chain-stays (link k′ c) h)
 
   -- and so does each word on it
-  pub words-stay : {v x w u : ℕ} {l : List ℕ} → Chain g v l → chainEnd v l ≢ t → In x (v ∷ l) → g .link x w u → g′ .link x w u
+  pub words-stay : {v x w u : ℕ} {l : List ℕ} → Chain g v l → chainEnd v l ≢ t → In x (v ∷ l) → g .link x w u
+      → g′ .link x w u
   words-stay (here r) h top k = absurd (d .not-both _ _ _ r k)
   words-stay {u = u} (link {u = y} {l = l} k′ c) h top k = f .keep _ _ _ far k
     where

@@ -1,4 +1,5 @@
--- Demand 3, its last sentence: ending the tasks of a chain in turn, farthest first, takes one link off at each end; each of these ends is accepted. Assumes nothing.
+-- Demand 3, its last sentence: ending the tasks of a chain in turn, farthest first, takes one link off at each end;
+-- each of these ends is accepted. Assumes nothing.
 use mathlib.Core.Path.{_≡_, refl, sym, ap, subst, _∙_}
 use mathlib.Core.List.{List, [], _∷_, _++_, append-assoc, append-nil}
 use Prim.Native.Nat.{ℕ, _+_, _-_, _≤_, _<_}
@@ -9,12 +10,12 @@ use Rattle.words.specs.Words.{Form, readyWord, endedWord, ownedBy}
 use Rattle.words.specs.Lists.{In, top, pop}
 use Rattle.words.proofs.ListLaws.{length-replaced, within-table, in-right}
 use Rattle.rules.specs.Tables.{Tables, roomOf, taskAt}
-use Rattle.rules.specs.Chains.{Chain, here, chainEnd, view, graph, waits}
+use Rattle.rules.specs.Chains.{WaitsFor, Graph, Chain, here, chainEnd, view, graph, waits}
 use Rattle.rules.specs.Refusals.{first}
 use Rattle.rules.specs.Steps.{step-end, Outcome, withEnded, awaits, effect, step, LentStep, run}
 use Rattle.rules.specs.Demands.{Apart, Good, ends, AllEnd, no-end, an-end}
 use Rattle.rules.proofs.GuardLaws.{guarded-none}
-use Rattle.rules.proofs.GraphLaws.{end-ready, shorter, shorter-word}
+use Rattle.rules.proofs.GraphLaws.{Frame, end-ready, shorter, shorter-word}
 use Rattle.rules.proofs.Kept.{run-lengths, good-run, ready-passes}
 use Rattle.rules.proofs.Moves.{det, frame}
 use Rattle.rules.proofs.Order.{step-guarded}
@@ -78,27 +79,40 @@ module _ (F : Form) (apart : Apart F) (n : ℕ) (s : Tables) (g : Good F s) (roo
       after-end = ap (λ (o : Outcome). o .after) (end-accepted e last-ready)
 
     length-ended : length (ended .tasks) ≡ length (s .tasks)
-    length-ended = length-set (woken (F .base) s e) e endedWord ∙ length-replaced (awaits (s .promises) (ownedBy e)) readyWord (s .tasks)
+    length-ended =
+        length-set (woken (F .base) s e) e endedWord
+        ∙ length-replaced (awaits (s .promises) (ownedBy e)) readyWord (s .tasks)
 
-    -- its end takes it off
+    -- its end leaves each link that does not lead to it, and makes ready who waited for it
+    module _ (l : List ℕ) (c : Chain (waits s) v (l ++ e ∷ [])) where
+      abbrev after : Graph
+      after = graph (length (s .tasks)) (view ended)
+
+      end-frame : Frame (waits s) after e
+      end-frame =
+          frame (length (s .tasks)) (length (s .promises)) (F .base) (view s) (view ended) e
+          (end-moves (length (s .tasks)) (length (s .promises)) (F .base) s e (last-below l c) (last-ready l c)
+          (last-below l c))
+
+      end-frees : (x p : ℕ) → WaitsFor (length (s .tasks)) (view s) x p e → taskAt ended x ≡ readyWord
+      end-frees =
+          end-wakes (length (s .tasks)) (length (s .promises)) (F .base) s e (last-below l c) (last-ready l c)
+          (last-below l c)
+
+    -- so it takes that task off the chain
     drain-one : (l : List ℕ) → Chain (waits s) v (l ++ e ∷ []) → Chain (waits (step F n s (step-end e) .after)) v l
     drain-one l c =
-        let b = last-below l c in
-        let r = last-ready l c in
         rw (after-end l c)
         (subst (λ (x : ℕ). Chain (graph x (view ended)) v l) (sym length-ended)
-        (shorter (waits s) (graph (length (s .tasks)) (view ended)) e (det (length (s .tasks)) (view s))
-        (frame (length (s .tasks)) (length (s .promises)) (F .base) (view s) (view ended) e (end-moves (length (s .tasks)) (length (s .promises)) (F .base) s e b r b))
-        (end-wakes (length (s .tasks)) (length (s .promises)) (F .base) s e b r b) l c))
+        (shorter (waits s) (after l c) e (det (length (s .tasks)) (view s)) (end-frame l c) (end-frees l c) l c))
 
     -- and a waiter before it keeps its word
-    drain-word : (u : ℕ) (l : List ℕ) → Chain (waits s) v (u ∷ (l ++ e ∷ [])) → taskAt (step F n s (step-end e) .after) v ≡ taskAt s v
+    drain-word : (u : ℕ) (l : List ℕ) → Chain (waits s) v (u ∷ (l ++ e ∷ []))
+        → taskAt (step F n s (step-end e) .after) v ≡ taskAt s v
     drain-word u l c =
-        let b = last-below (u ∷ l) c in
-        let r = last-ready (u ∷ l) c in
-        let (p, k, k′) = shorter-word (waits s) (graph (length (s .tasks)) (view ended)) e (det (length (s .tasks)) (view s))
-        (frame (length (s .tasks)) (length (s .promises)) (F .base) (view s) (view ended) e (end-moves (length (s .tasks)) (length (s .promises)) (F .base) s e b r b))
-        (end-wakes (length (s .tasks)) (length (s .promises)) (F .base) s e b r b) l c in
+        let d = det (length (s .tasks)) (view s) in
+        let (p, k, k′) =
+        shorter-word (waits s) (after (u ∷ l) c) e d (end-frame (u ∷ l) c) (end-frees (u ∷ l) c) l c in
         rw (after-end (u ∷ l) c) (k′ .waits ∙ sym (k .waits))
 
 -- ---- the last ones, farthest first

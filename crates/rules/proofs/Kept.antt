@@ -1,5 +1,5 @@
--- Every step keeps sound tables sound and good tables good, with whatever report; all-zero and fresh tables are sound, and so
--- are the tables after any steps from fresh ones. Assumes nothing.
+-- Every step keeps sound tables sound and good tables good, with whatever report; all-zero and fresh tables are sound,
+-- and so are the tables after any steps from fresh ones. Assumes nothing.
 use mathlib.Core.Path.{_≡_, refl, sym, ap, subst, subst₂, _∙_}
 use mathlib.Core.Logic.{_⊎_, inl, inr}
 use mathlib.Core.List.{List, [], _∷_, _++_}
@@ -17,18 +17,8 @@ use Rattle.rules.specs.Refusals.{Row, first, tableRows, actorRows}
 use Rattle.rules.specs.Steps.{Step, actor, raw, step, LentStep, run}
 use Rattle.rules.specs.Demands.{Apart, Good, Refusal}
 use Rattle.rules.specs.declared.Answer.{Answer}
-use Rattle.rules.proofs.BoundsLaws.{
-  AsLong,
-  as-long,
-  as-long-too,
-  sizesFit-true,
-  sizesFit-of,
-  sizesFit-kept,
-  inBounds-sizes,
-  inBounds-room,
-  inBounds-both,
-  live-is,
-}
+use Rattle.rules.proofs.BoundsLaws.{AsLong, as-long, as-long-too, sizesFit-true, sizesFit-of, sizesFit-kept}
+use Rattle.rules.proofs.BoundsLaws.{inBounds-sizes, inBounds-room, inBounds-both, live-is}
 use Rattle.rules.proofs.GuardLaws.{guarded-is}
 use Rattle.rules.proofs.Accepted.{lengths-kept, Took, stayed, moved, took-raw}
 use Rattle.rules.proofs.Moves.{sound-step}
@@ -61,7 +51,8 @@ module _ (F : Form) (apart : Apart F) where
       pub accepted-room : roomOf s ≤ n
       accepted-room = inBounds-room F n s (tableRows-none F n s not-given .0)
 
-    -- each step of any task, with any numbers, from any tables: those that are damaged or out of bounds stay as they were
+    -- each step of any task, with any numbers, from any tables: those that are damaged or out of bounds stay as they
+    -- were
     pub took-step : (s : Tables) (x : Step) → Took (F .base) s (actor x) (step F n s x .after)
     took-step s x =
         guarded-is _ (first (tableRows F n s)) s (raw F s x) (Took (F .base) s (actor x)) (stayed refl)
@@ -87,7 +78,8 @@ module _ (F : Form) (apart : Apart F) where
 
     -- so it leaves good tables good
     pub good-step : (s : Tables) (x : Step) → Good F s → Good F (step F n s x .after)
-    good-step s x g = record { sizes = sizesFit-kept F (step-lengths s x) (g .sizes); sound = sound-kept s (g .sound) x }
+    good-step s x g =
+        record { sizes = sizesFit-kept F (step-lengths s x) (g .sizes); sound = sound-kept s (g .sound) x }
 
     module _ (s : Tables) (g : Good F s) (room : roomOf s ≤ n) where
       -- refusals 1 and 2 are not given to good tables with a report that has room
@@ -100,7 +92,8 @@ module _ (F : Form) (apart : Apart F) where
           → first (tableRows F n s ++ (actorRows (s .tasks) t ++ rows)) ≡ first rows
       unfolding first
       ready-passes t r rows =
-          rw (inBounds-both F n s (g .sizes) room, sound-soundTest (F .base) s (g .sound)) (ready-acts (s .tasks) t r rows)
+          rw (inBounds-both F n s (g .sizes) room, sound-soundTest (F .base) s (g .sound))
+          (ready-acts (s .tasks) t r rows)
 
   -- any steps, each with a report of its own
   pub run-lengths : (s : Tables) (xs : List LentStep) → AsLong (run F s xs) s
@@ -139,19 +132,28 @@ zero-not-live T P v l = go (live-is _ l)
     go (inl e) = omega (arith, zeros T v)
     go (inr h) = omega (arith, zeros T v)
 
+pub fresh-lengths : (T P : ℕ) → (length (fresh T P .tasks) ≡ T) × (length (fresh T P .promises) ≡ P)
+fresh-lengths T P =
+    (length-set (replicate T 0) 0 readyWord ∙ length-replicate {A = ℕ} T 0, length-replicate {A = ℕ} P 0)
+
 module _ (T P : ℕ) (some : 1 ≤ T) where
   fresh-task : (v : ℕ) → (taskAt (fresh T P) v ≡ unusedWord) ⊎ (taskAt (fresh T P) v ≡ readyWord)
   fresh-task v = go (ℕ-discrete v 0)
     where
       go : Dec (v ≡ 0) → (taskAt (fresh T P) v ≡ unusedWord) ⊎ (taskAt (fresh T P) v ≡ readyWord)
-      go (yes e) = inr (ap (taskAt (fresh T P)) e ∙ getD-set-same (replicate T 0) 0 readyWord 0 (omega (arith, length-replicate {A = ℕ} T 0)))
+      go (yes e) =
+          inr
+          (ap (taskAt (fresh T P)) e
+          ∙ getD-set-same (replicate T 0) 0 readyWord 0 (omega (arith, length-replicate {A = ℕ} T 0)))
       go (no k) = inl (getD-set-other (replicate T 0) 0 v readyWord 0 k ∙ zeros T v)
 
-  none-waits : (v p : ℕ) → taskAt (fresh T P) v ≡ waitsOn p → (taskAt (fresh T P) v ≡ unusedWord) ⊎ (taskAt (fresh T P) v ≡ readyWord) → ⊥
+  none-waits : (v p : ℕ) → taskAt (fresh T P) v ≡ waitsOn p
+      → (taskAt (fresh T P) v ≡ unusedWord) ⊎ (taskAt (fresh T P) v ≡ readyWord) → ⊥
   none-waits v p w (inl e) = omega arith
   none-waits v p w (inr e) = omega arith
 
-  fresh-word : (m v : ℕ) → (taskAt (fresh T P) v ≡ unusedWord) ⊎ (taskAt (fresh T P) v ≡ readyWord) → TaskWord m (taskAt (fresh T P) v)
+  fresh-word : (m v : ℕ) → (taskAt (fresh T P) v ≡ unusedWord) ⊎ (taskAt (fresh T P) v ≡ readyWord)
+      → TaskWord m (taskAt (fresh T P) v)
   fresh-word m v (inl e) = unused e
   fresh-word m v (inr e) = ready e
 
@@ -167,12 +169,8 @@ module _ (T P : ℕ) (some : 1 ≤ T) where
 
   pub fresh-good : (F : Form) → Apart F → T ≤ F .mostTasks → P ≤ F .mostPromises → Good F (fresh T P)
   fresh-good F apart most most′ = record {
-    sizes = sizesFit-of F (fresh T P) (record { some = rw lt some; tasks = rw lt most; promises = rw lp most′ });
+    sizes =
+        let (lt, lp) = fresh-lengths T P in
+        sizesFit-of F (fresh T P) (record { some = rw lt some; tasks = rw lt most; promises = rw lp most′ });
     sound = fresh-sound (F .base) (omega (arith, apart));
   }
-    where
-      lt : length (fresh T P .tasks) ≡ T
-      lt = length-set (replicate T 0) 0 readyWord ∙ length-replicate {A = ℕ} T 0
-
-      lp : length (fresh T P .promises) ≡ P
-      lp = length-replicate {A = ℕ} P 0

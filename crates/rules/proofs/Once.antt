@@ -1,5 +1,5 @@
--- "A number is used once in a session": no step turns a word that is not 0 into 0, since no move does. So what was made or used stays so after any steps, from
--- any tables, and is not made or started again. Assumes nothing.
+-- "A number is used once in a session": no step turns a word that is not 0 into 0, since no move does. So what was made
+-- or used stays so after any steps, from any tables, and is not made or started again. Assumes nothing.
 use mathlib.Core.Path.{_≡_, sym, ap, _∙_}
 use mathlib.Core.Logic.{_⊎_, inr, _≢_}
 use mathlib.Core.List.{List, [], _∷_}
@@ -14,7 +14,8 @@ use Rattle.rules.specs.Steps.{step-new, step-async, actor, rows, effect,
 use Rattle.rules.specs.Demands.{Apart, Refusal}
 use Rattle.rules.proofs.Accepted.{Took, stayed, moved}
 use Rattle.rules.proofs.Kept.{took-step}
-use Rattle.rules.proofs.Moves.{TaskMove, t-same, t-woken, t-started, t-ended, t-waits, PromiseMove, p-same, p-made, p-set, p-blamed, p-moved}
+use Rattle.rules.proofs.Moves.{TaskMove, t-same, t-woken, t-started, t-ended, t-waits, PromiseMove, p-same}
+use Rattle.rules.proofs.Moves.{p-made, p-set, p-blamed, p-moved}
 use Rattle.rules.proofs.Policy.{refused-or, refused-unless, forbidden-refused}
 use Rattle.rules.proofs.RefusalLaws.{actorRows-none, childRows-none}
 
@@ -27,7 +28,8 @@ task-used P B s s′ t v (t-started a b) h z = omega arith
 task-used P B s s′ t v (t-ended e a) h z = omega arith
 task-used P B s s′ t v (t-waits p b e a) h z = omega arith
 
-promise-made : (T B : ℕ) → firstOwned ≤ B → (s s′ : View) (t q : ℕ) → PromiseMove T B s s′ t q → s .promise q ≢ unmadeWord → s′ .promise q ≢ unmadeWord
+promise-made : (T B : ℕ) → firstOwned ≤ B → (s s′ : View) (t q : ℕ) → PromiseMove T B s s′ t q
+    → s .promise q ≢ unmadeWord → s′ .promise q ≢ unmadeWord
 promise-made T B f s s′ t q (p-same e) h z = h (sym e ∙ z)
 promise-made T B f s s′ t q (p-made a b) h z = omega arith
 promise-made T B f s s′ t q (p-set a b) h z = omega arith
@@ -37,7 +39,8 @@ promise-made T B f s s′ t q (p-moved c x a b g) h z = omega arith
 -- ---- one step, and any steps
 
 module _ (F : Form) (apart : Apart F) where
-  task-by : (s s′ : Tables) (t : ℕ) → Took (F .base) s t s′ → (v : ℕ) → taskAt s v ≢ unusedWord → taskAt s′ v ≢ unusedWord
+  task-by : (s s′ : Tables) (t : ℕ) → Took (F .base) s t s′ → (v : ℕ) → taskAt s v ≢ unusedWord
+      → taskAt s′ v ≢ unusedWord
   task-by s s′ t (stayed e) v h = λ z. h (sym (ap (λ (x : Tables). taskAt x v) e) ∙ z)
   task-by s s′ t (moved l m) v h =
       task-used (length (s .promises)) (F .base) (view s) (view s′) t v (m .moves .task v) h
@@ -49,7 +52,8 @@ module _ (F : Form) (apart : Apart F) where
       promise-made (length (s .tasks)) (F .base) (omega (arith, apart)) (view s) (view s′) t q (m .moves .prom q) h
 
   -- after any steps, from any tables and each with a report of its own, a task that was used is used
-  pub task-stays-used : (s : Tables) (xs : List LentStep) (t : ℕ) → taskAt s t ≢ unusedWord → taskAt (run F s xs) t ≢ unusedWord
+  pub task-stays-used : (s : Tables) (xs : List LentStep) (t : ℕ) → taskAt s t ≢ unusedWord
+      → taskAt (run F s xs) t ≢ unusedWord
   task-stays-used s [] t h = h
   task-stays-used s ((n, x) ∷ xs) t h =
       let s′ = step F n s x .after in
@@ -74,7 +78,8 @@ module _ (F : Form) (apart : Apart F) where
   -- an async of a child that was used is refused
   used-refused : (n : ℕ) (s : Tables) (t c : ℕ) (list : List ℕ) → taskAt s c ≢ unusedWord
       → Refusal (step F n s (step-async t c list) .answer)
-  used-refused n s t c list h = refused-unless (refused-or F n s (step-async t c list) (taskAt s c ≡ unusedWord) unused) h
+  used-refused n s t c list h =
+      refused-unless (refused-or F n s (step-async t c list) (taskAt s c ≡ unusedWord) unused) h
     where
       unused : first (rows F s (step-async t c list)) ≡ 0
           → Refusal (effect F s (step-async t c list) .answer) ⊎ (taskAt s c ≡ unusedWord)

@@ -1,4 +1,5 @@
--- Laws of specs/Refusals.antt: what the first refusal says of the rows, and what no refusal says of the numbers of a step. Assumes nothing.
+-- Laws of specs/Refusals.antt: what the first refusal says of the rows, and what no refusal says of the numbers of a
+-- step. Assumes nothing.
 use Prim.Native.Nat.{ℕ, zero, suc, _+_, _-_, _≤_, _<_}
 use mathlib.Core.Path.{_≡_, refl, sym, ap, _∙_}
 use mathlib.Core.Logic.{_≢_, ⊎-elim}
@@ -15,10 +16,12 @@ use Rattle.words.specs.Lists.{allBelow}
 use Rattle.words.proofs.BoolLaws.{not-is-false, or-split, true-is-not-false}
 use Rattle.words.proofs.ListLaws.{within-table}
 use Rattle.rules.specs.Tables.{live, Live, waiting}
-use Rattle.rules.specs.Refusals.{Row, first, earlier, actorRows, childRows, newRows, getRows, ownRows, entryRefusal, differs, firstBad}
+use Rattle.rules.specs.Refusals.{Row, first, earlier, actorRows, childRows, newRows, getRows, ownRows}
+use Rattle.rules.specs.Refusals.{entryRefusal, differs, firstBad}
 
 -- a row that is not the first that applies, and what follows it
-pub first-past : {q : ℕ} (r : ℕ) (b : Bool) (rows : List Row) → r ≢ q → first ((r, b) ∷ rows) ≡ q → (b ≡ false) × (first rows ≡ q)
+pub first-past : {q : ℕ} (r : ℕ) (b : Bool) (rows : List Row) → r ≢ q → first ((r, b) ∷ rows) ≡ q
+    → (b ≡ false) × (first rows ≡ q)
 unfolding first
 first-past r true rows n e = absurd (n e)
 first-past r false rows n e = (refl, e)
@@ -42,7 +45,8 @@ first-append ys (row {b = false} n rest) = first-append ys rest
 
 -- ---- refusals 1 and 2, by two tests
 
-pub tests-past : {q : ℕ} (a b : Bool) (rows : List Row) → 1 ≢ q → 2 ≢ q → first ((1, not a) ∷ (2, not b) ∷ rows) ≡ q → (a ≡ true) × (b ≡ true) × (first rows ≡ q)
+pub tests-past : {q : ℕ} (a b : Bool) (rows : List Row) → 1 ≢ q → 2 ≢ q → first ((1, not a) ∷ (2, not b) ∷ rows) ≡ q
+    → (a ≡ true) × (b ≡ true) × (first rows ≡ q)
 tests-past a b rows m n e =
     let (x, e₁) = first-past 1 (not a) _ m e in
     let (y, e₂) = first-past 2 (not b) _ n e₁ in
@@ -58,20 +62,30 @@ pub actorRows-numbered : (ts : List ℕ) (t : ℕ) → Numbered (actorRows ts t)
 actorRows-numbered ts t = row (eqb-false 3 0 refl) (row (eqb-false 4 0 refl) (row (eqb-false 5 0 refl) no-row))
 
 live-not-waiting : (w : ℕ) → Live w → waiting w ≡ false → w ≡ readyWord
-live-not-waiting w l n = ⊎-elim (λ (e : eqb w readyWord ≡ true). eqb-true w readyWord e) (λ (e : waiting w ≡ true). absurd (true-is-not-false (sym e ∙ n))) (or-split (eqb w readyWord) (waiting w) l)
+live-not-waiting w l n =
+    ⊎-elim (λ (e : eqb w readyWord ≡ true). eqb-true w readyWord e)
+    (λ (e : waiting w ≡ true). absurd (true-is-not-false (sym e ∙ n))) (or-split (eqb w readyWord) (waiting w) l)
 
-pub actorRows-past : {q : ℕ} (ts : List ℕ) (t : ℕ) (rows : List Row) → 3 ≢ q → 4 ≢ q → 5 ≢ q → first (actorRows ts t ++ rows) ≡ q → Acts ts t × (first rows ≡ q)
+pub actorRows-past : {q : ℕ} (ts : List ℕ) (t : ℕ) (rows : List Row) → 3 ≢ q → 4 ≢ q → 5 ≢ q
+    → first (actorRows ts t ++ rows) ≡ q → Acts ts t × (first rows ≡ q)
 actorRows-past ts t rows three four five e =
     let (a, e₁) = first-past 3 (not (ltb t (length ts))) _ three e in
     let (b, e₂) = first-past 4 (not (live (getD ts t 0))) _ four e₁ in
-    let (c, e₃) = first-past 5 (waiting (getD ts t 0)) _ five e₂ in
-    (record { below = ltb-true t (length ts) (not-is-false (ltb t (length ts)) a); ready = live-not-waiting (getD ts t 0) (not-is-false (live (getD ts t 0)) b) c }, e₃)
+    let (c, e₃) = first-past 5 (waiting (getD ts t 0)) _ five e₂ in (
+      record {
+        below = ltb-true t (length ts) (not-is-false (ltb t (length ts)) a);
+        ready = live-not-waiting (getD ts t 0) (not-is-false (live (getD ts t 0)) b) c;
+      },
+      e₃,
+    )
 
-pub actorRows-none : (ts : List ℕ) (t : ℕ) (rows : List Row) → first (actorRows ts t ++ rows) ≡ 0 → Acts ts t × (first rows ≡ 0)
+pub actorRows-none : (ts : List ℕ) (t : ℕ) (rows : List Row) → first (actorRows ts t ++ rows) ≡ 0
+    → Acts ts t × (first rows ≡ 0)
 actorRows-none ts t rows e = actorRows-past ts t rows (eqb-false 3 0 refl) (eqb-false 4 0 refl) (eqb-false 5 0 refl) e
 
 -- a ready task may act
-pub ready-acts : (ts : List ℕ) (t : ℕ) → getD ts t 0 ≡ readyWord → (rows : List Row) → first (actorRows ts t ++ rows) ≡ first rows
+pub ready-acts : (ts : List ℕ) (t : ℕ) → getD ts t 0 ≡ readyWord → (rows : List Row)
+    → first (actorRows ts t ++ rows) ≡ first rows
 unfolding first
 ready-acts ts t r rows =
     let b : t < length ts = within-table ts t (λ (z : getD ts t 0 ≡ 0). omega arith) in
@@ -82,14 +96,18 @@ ready-acts ts t r rows =
 pub childRows-none : (ts : List ℕ) (c : ℕ) → first (childRows ts c) ≡ 0 → (c < length ts) × (getD ts c 0 ≡ unusedWord)
 childRows-none ts c e =
     let (a, e₁) = first-past 11 (not (ltb c (length ts))) _ (eqb-false 11 0 refl) e in
-    let (b, e₂) = first-past 12 (not (eqb (getD ts c 0) unusedWord)) _ (eqb-false 12 0 refl) e₁ in
-    (ltb-true c (length ts) (not-is-false (ltb c (length ts)) a), eqb-true (getD ts c 0) unusedWord (not-is-false (eqb (getD ts c 0) unusedWord) b))
+    let (b, e₂) = first-past 12 (not (eqb (getD ts c 0) unusedWord)) _ (eqb-false 12 0 refl) e₁ in (
+      ltb-true c (length ts) (not-is-false (ltb c (length ts)) a),
+      eqb-true (getD ts c 0) unusedWord (not-is-false (eqb (getD ts c 0) unusedWord) b),
+    )
 
 pub newRows-none : (ps : List ℕ) (p : ℕ) → first (newRows ps p) ≡ 0 → (p < length ps) × (getD ps p 0 ≡ unmadeWord)
 newRows-none ps p e =
     let (a, e₁) = first-past 6 (not (ltb p (length ps))) _ (eqb-false 6 0 refl) e in
-    let (b, e₂) = first-past 7 (not (eqb (getD ps p 0) unmadeWord)) _ (eqb-false 7 0 refl) e₁ in
-    (ltb-true p (length ps) (not-is-false (ltb p (length ps)) a), eqb-true (getD ps p 0) unmadeWord (not-is-false (eqb (getD ps p 0) unmadeWord) b))
+    let (b, e₂) = first-past 7 (not (eqb (getD ps p 0) unmadeWord)) _ (eqb-false 7 0 refl) e₁ in (
+      ltb-true p (length ps) (not-is-false (ltb p (length ps)) a),
+      eqb-true (getD ps p 0) unmadeWord (not-is-false (eqb (getD ps p 0) unmadeWord) b),
+    )
 
 pub getRows-none : (ps : List ℕ) (p : ℕ) → first (getRows ps p) ≡ 0 → (p < length ps) × (getD ps p 0 ≢ unmadeWord)
 getRows-none ps p e =
@@ -108,17 +126,22 @@ ownRows-numbered B ps t p =
     (row (eqb-false 8 0 refl)
     (row (eqb-false 9 0 refl) (row (eqb-false 17 0 refl) (row (eqb-false 10 0 refl) no-row))))
 
-pub ownRows-none : (B : ℕ) (ps : List ℕ) (t p : ℕ) (rows : List Row) → first (ownRows B ps t p ++ rows) ≡ 0 → (p < length ps) × (getD ps p 0 ≡ ownedBy t) × (first rows ≡ 0)
+pub ownRows-none : (B : ℕ) (ps : List ℕ) (t p : ℕ) (rows : List Row) → first (ownRows B ps t p ++ rows) ≡ 0
+    → (p < length ps) × (getD ps p 0 ≡ ownedBy t) × (first rows ≡ 0)
 ownRows-none B ps t p rows e =
     let (a, e₁) = first-past 6 (not (ltb p (length ps))) _ (eqb-false 6 0 refl) e in
     let (b, e₂) = first-past 8 (eqb (getD ps p 0) unmadeWord) _ (eqb-false 8 0 refl) e₁ in
     let (c, e₃) = first-past 9 (eqb (getD ps p 0) setWord) _ (eqb-false 9 0 refl) e₂ in
     let (d, e₄) = first-past 17 (leb B (getD ps p 0)) _ (eqb-false 17 0 refl) e₃ in
-    let (f, e₅) = first-past 10 (not (eqb (getD ps p 0) (ownedBy t))) _ (eqb-false 10 0 refl) e₄ in
-    (ltb-true p (length ps) (not-is-false (ltb p (length ps)) a), eqb-true (getD ps p 0) (ownedBy t) (not-is-false (eqb (getD ps p 0) (ownedBy t)) f), e₅)
+    let (f, e₅) = first-past 10 (not (eqb (getD ps p 0) (ownedBy t))) _ (eqb-false 10 0 refl) e₄ in (
+      ltb-true p (length ps) (not-is-false (ltb p (length ps)) a),
+      eqb-true (getD ps p 0) (ownedBy t) (not-is-false (eqb (getD ps p 0) (ownedBy t)) f),
+      e₅,
+    )
 
 -- 9 is the first that applies: the promise is set
-pub ownRows-nine : (B : ℕ) (ps : List ℕ) (t p : ℕ) (rows : List Row) → first rows ≢ 9 → first (ownRows B ps t p ++ rows) ≡ 9 → getD ps p 0 ≡ setWord
+pub ownRows-nine : (B : ℕ) (ps : List ℕ) (t p : ℕ) (rows : List Row) → first rows ≢ 9
+    → first (ownRows B ps t p ++ rows) ≡ 9 → getD ps p 0 ≡ setWord
 ownRows-nine B ps t p rows n e =
     let (a, e₁) = first-past 6 (not (ltb p (length ps))) _ (eqb-false 6 9 refl) e in
     let (b, e₂) = first-past 8 (eqb (getD ps p 0) unmadeWord) _ (eqb-false 8 9 refl) e₁ in
@@ -130,7 +153,8 @@ ownRows-nine B ps t p rows n e =
         n (first-past 10 (not (eqb (getD ps p 0) (ownedBy t))) rows (eqb-false 10 9 refl) z₁ .1)
 
 -- 17 is: it is blamed
-pub ownRows-blamed : (B : ℕ) (ps : List ℕ) (t p : ℕ) (rows : List Row) → first rows ≢ 17 → first (ownRows B ps t p ++ rows) ≡ 17 → B ≤ getD ps p 0
+pub ownRows-blamed : (B : ℕ) (ps : List ℕ) (t p : ℕ) (rows : List Row) → first rows ≢ 17
+    → first (ownRows B ps t p ++ rows) ≡ 17 → B ≤ getD ps p 0
 ownRows-blamed B ps t p rows n e =
     let (a, e₁) = first-past 6 (not (ltb p (length ps))) _ (eqb-false 6 17 refl) e in
     let (b, e₂) = first-past 8 (eqb (getD ps p 0) unmadeWord) _ (eqb-false 8 17 refl) e₁ in
@@ -141,13 +165,19 @@ ownRows-blamed B ps t p rows n e =
     later z = n (first-past 10 (not (eqb (getD ps p 0) (ownedBy t))) rows (eqb-false 10 17 refl) z .1)
 
 -- and a promise that is set, or blamed, is refused by these
-pub set-is-nine : (B : ℕ) (ps : List ℕ) (t p : ℕ) (rows : List Row) → getD ps p 0 ≡ setWord → first (ownRows B ps t p ++ rows) ≡ 9
+pub set-is-nine : (B : ℕ) (ps : List ℕ) (t p : ℕ) (rows : List Row) → getD ps p 0 ≡ setWord
+    → first (ownRows B ps t p ++ rows) ≡ 9
 unfolding first
 set-is-nine B ps t p rows e =
     let made : getD ps p 0 ≢ 0 = λ (z : getD ps p 0 ≡ 0). omega arith in
-    rw (lt-ltb p (length ps) (within-table ps p made), ne-eqb (getD ps p 0) unmadeWord made, eq-eqb (getD ps p 0) setWord e)
+    rw (
+      lt-ltb p (length ps) (within-table ps p made),
+      ne-eqb (getD ps p 0) unmadeWord made,
+      eq-eqb (getD ps p 0) setWord e,
+    )
 
-pub blamed-is-17 : (B : ℕ) (ps : List ℕ) (t p : ℕ) (rows : List Row) → setWord < B → B ≤ getD ps p 0 → first (ownRows B ps t p ++ rows) ≡ 17
+pub blamed-is-17 : (B : ℕ) (ps : List ℕ) (t p : ℕ) (rows : List Row) → setWord < B → B ≤ getD ps p 0
+    → first (ownRows B ps t p ++ rows) ≡ 17
 unfolding first
 blamed-is-17 B ps t p rows f h =
     let made : getD ps p 0 ≢ 0 = λ (z : getD ps p 0 ≡ 0). omega arith in
@@ -160,7 +190,8 @@ blamed-is-17 B ps t p rows f h =
 
 -- an entry of an async list that nothing is wrong with
 pub entryRefusal-none : (B : ℕ) (ps : List ℕ) (t : ℕ) (list : List ℕ) (i : ℕ) → entryRefusal B ps t list i ≡ 0
-    → (getD list i 0 < length ps) × (getD ps (getD list i 0) 0 ≡ ownedBy t) × (allBelow i (differs list (getD list i 0)) ≡ true)
+    → (getD list i 0 < length ps) × (getD ps (getD list i 0) 0 ≡ ownedBy t)
+    × (allBelow i (differs list (getD list i 0)) ≡ true)
 unfolding entryRefusal
 entryRefusal-none B ps t list i e =
     let (a, b, e₁) = ownRows-none B ps t (getD list i 0) _ e in
@@ -169,7 +200,8 @@ entryRefusal-none B ps t list i e =
 
 -- ---- the first bad place; n - i places are left at i
 
-pub firstBad-step : (f : ℕ → ℕ) (n i : ℕ) → i < n → firstBad f (n - i) i ≡ cond (eqb (f i) 0) (firstBad f (n - (i + 1)) (i + 1)) i
+pub firstBad-step : (f : ℕ → ℕ) (n i : ℕ) → i < n
+    → firstBad f (n - i) i ≡ cond (eqb (f i) 0) (firstBad f (n - (i + 1)) (i + 1)) i
 unfolding firstBad
 firstBad-step f n i h = let e : n - i ≡ suc (n - (i + 1)) = omega arith in rw (e, add-one)
 
@@ -187,6 +219,7 @@ firstBad-before f (suc n) i j h k = go (firstBad-before f n (suc i) j) (eqb (f i
     at-i rec z m (yes e) = ap f e ∙ z
     at-i rec z m (no d) = rec (omega arith) m
 
-    go : (suc i ≤ j → j < firstBad f n (suc i) → f j ≡ 0) → (b : Bool) → eqb (f i) 0 ≡ b → j < cond b (firstBad f n (suc i)) i → f j ≡ 0
+    go : (suc i ≤ j → j < firstBad f n (suc i) → f j ≡ 0) → (b : Bool) → eqb (f i) 0 ≡ b
+        → j < cond b (firstBad f n (suc i)) i → f j ≡ 0
     go rec true e m = at-i rec (eqb-true (f i) 0 e) m (ℕ-discrete j i)
     go rec false e m = absurd (omega arith)

@@ -1,6 +1,7 @@
--- Request 4, "Show that the alarm is real", over the rules without the soundness test, in any tables. A crowd in which each task waits on a promise that another of
--- the crowd owns stays so after any steps: none of them may act, and nobody else owns what they await. The tasks of a ring are such a crowd, and so is everybody whose
--- chain runs into it. Assumes nothing.
+-- Request 4, "Show that the alarm is real", over the rules without the soundness test, in any tables. A crowd in which
+-- each task waits on a promise that another of the crowd owns stays so after any steps: none of them may act, and
+-- nobody else owns what they await. The tasks of a ring are such a crowd, and so is everybody whose chain runs into it.
+-- Assumes nothing.
 use mathlib.Core.Path.{_≡_, refl, sym, ap, subst, _∙_}
 use mathlib.Core.Logic.{_⊎_, inl, inr, _≢_}
 use mathlib.Core.List.{List, [], _∷_}
@@ -17,10 +18,13 @@ use Rattle.rules.specs.Tables.{Tables, sizesFit, roomOf, inBounds, taskA
 use Rattle.rules.specs.Chains.{WaitsFor, Chain, here, link, view, waits}
 use Rattle.rules.specs.Sound.{Sound, to, hop, soundTest}
 use Rattle.rules.specs.Refusals.{first, boundsRows, getRows}
-use Rattle.rules.specs.Steps.{Step, step-get, actor, outcome, withWait, astray, walk, followed, got, guarded, raw, step, untested, LentStep, ran}
-use Rattle.rules.specs.Demands.{Apart, hadWaited, Pair, this-pair, later-pair, LeadsTo, at-last, and-then, Stands, RunsInto, of-the-ring, behind-it}
+use Rattle.rules.specs.Steps.{Step, step-get, actor, outcome, withWait, astray, walk, followed, got, guarded, raw}
+use Rattle.rules.specs.Steps.{step, untested, LentStep, ran}
+use Rattle.rules.specs.Demands.{Apart, hadWaited, Pair, this-pair, later-pair, LeadsTo, at-last, and-then, Stands}
+use Rattle.rules.specs.Demands.{RunsInto, of-the-ring, behind-it}
 use Rattle.rules.specs.declared.Answer.the-variants.{Waits, Cycle, Refused}
-use Rattle.rules.proofs.BoundsLaws.{AsLong, as-long, as-long-too, long-tasks, sizesFit-kept, inBounds-sizes, inBounds-both}
+use Rattle.rules.proofs.BoundsLaws.{AsLong, as-long, as-long-too, long-tasks, sizesFit-kept, inBounds-sizes}
+use Rattle.rules.proofs.BoundsLaws.{inBounds-both}
 use Rattle.rules.proofs.Accepted.{Did, did-raw, lengths-kept, did-moves, got-owned}
 use Rattle.rules.proofs.Alarms.{followed-stands, alarm-means}
 use Rattle.rules.proofs.GuardLaws.{guarded-is, guarded-none}
@@ -56,7 +60,8 @@ module _ (W : ℕ → Type 0) where
 
   -- the words of its tasks, and of what they await, are the same
   abbrev Same : Tables → Tables → Type 0
-  Same s s′ = (v : ℕ) → W v → (taskAt s′ v ≡ taskAt s v) × ((p : ℕ) → taskAt s v ≡ waitsOn p → promiseAt s′ p ≡ promiseAt s p)
+  Same s s′ =
+      (v : ℕ) → W v → (taskAt s′ v ≡ taskAt s v) × ((p : ℕ) → taskAt s v ≡ waitsOn p → promiseAt s′ p ≡ promiseAt s p)
 
   stuck-same : (s s′ : Tables) → Stuck s → Same s s′ → Stuck s′
   stuck-same s s′ st same v m =
@@ -78,12 +83,14 @@ module _ (W : ℕ → Type 0) where
     below : (v : ℕ) → W v → v < length (s .tasks)
     below v m = let (p, u, w, o, m′) = st v m in within-table (s .tasks) v (λ (z : taskAt s v ≡ 0). omega arith)
 
-    same-moves : (B t : ℕ) (s′ : Tables) → Moves (length (s .tasks)) (length (s .promises)) B (view s) (view s′) t → Same s s′
+    same-moves : (B t : ℕ) (s′ : Tables) → Moves (length (s .tasks)) (length (s .promises)) B (view s) (view s′) t
+        → Same s s′
     same-moves B t s′ mv v m =
         let (p, u, w, o, m′) = st v m in
         let k : WaitsFor (length (s .tasks)) (view s) v p u = record { waits = w; owned = o; below = below u m′ } in
         link-words (length (s .tasks)) (length (s .tasks)) (view s) (view s′) v p u k
-        (frame (length (s .tasks)) (length (s .promises)) B (view s) (view s′) t mv .keep v p u (not-ready t u (mv .acts) m′) k)
+        (frame (length (s .tasks)) (length (s .promises)) B (view s) (view s′) t mv .keep v p u
+        (not-ready t u (mv .acts) m′) k)
 
     same-did : {B : ℕ} {s′ : Tables} {x : Step} → Did B s x s′ → Same s s′
     same-did {B} {s′} {x} d = go (did-moves d)
@@ -108,18 +115,22 @@ module _ (W : ℕ → Type 0) where
         no-chain m c
 
     -- following owners from it, on behalf of a ready task, finds neither that task nor another ready one
-    walk-astray : (t : ℕ) → taskAt s t ≡ readyWord → (n k u : ℕ) → W u → walk n (length (s .tasks)) (view s) t u k ≡ astray
+    walk-astray : (t : ℕ) → taskAt s t ≡ readyWord → (n k u : ℕ) → W u
+        → walk n (length (s .tasks)) (view s) t u k ≡ astray
     unfolding walk hop
     walk-astray t r zero k u m = refl
     walk-astray t r (suc n) k u m =
         let (p, x, w, o, m′) = st u m in
-        let f : hop (length (s .tasks)) (view s) u ≡ to x = hop-to (length (s .tasks)) (view s) (taskAt s u) p x w o (below x m′) in
+        let f : hop (length (s .tasks)) (view s) u ≡ to x =
+        hop-to (length (s .tasks)) (view s) (taskAt s u) p x w o (below x m′) in
         rw (ne-eqb u t (not-ready t u r m), f) (walk-astray t r n (suc k) x m′)
 
-    got-entered : (F : Form) → firstOwned + length (s .tasks) ≤ F .base → (t p u : ℕ) → taskAt s t ≡ readyWord → promiseAt s p ≡ ownedBy u → W u
+    got-entered : (F : Form) → firstOwned + length (s .tasks) ≤ F .base → (t p u : ℕ) → taskAt s t ≡ readyWord
+        → promiseAt s p ≡ ownedBy u → W u
         → got (F .base) s t p (promiseAt s p) ≡ outcome (Waits (length (s .tasks))) (withWait s t p) []
     unfolding followed
-    got-entered F f t p u r o m = got-owned F s f t p u (below u m) o ∙ ap (followed s t p) (walk-astray t r (length (s .tasks)) 1 u m)
+    got-entered F f t p u r o m =
+        got-owned F s f t p u (below u m) o ∙ ap (followed s t p) (walk-astray t r (length (s .tasks)) 1 u m)
 
   -- after any steps
   stuck-run : (F : Form) (s : Tables) → Stuck s → (xs : List LentStep) → Same s (ran (untested F) s xs)
@@ -132,7 +143,8 @@ module _ (W : ℕ → Type 0) where
       same-trans s s′ (ran (untested F) s′ xs) one (stuck-run F s′ (stuck-same s s′ st one) xs)
 
 -- whoever waits on a promise of the crowd belongs to it
-joined : (W : ℕ → Type 0) (s : Tables) → Stuck W s → (t p u : ℕ) → taskAt s t ≡ readyWord → promiseAt s p ≡ ownedBy u → W u → Stuck (λ v. (v ≡ t) ⊎ W v) (withWait s t p)
+joined : (W : ℕ → Type 0) (s : Tables) → Stuck W s → (t p u : ℕ) → taskAt s t ≡ readyWord → promiseAt s p ≡ ownedBy u
+    → W u → Stuck (λ v. (v ≡ t) ⊎ W v) (withWait s t p)
 joined W s st t p u r o m v (inl e) =
     let b : t < length (s .tasks) = within-table (s .tasks) t (λ (z : taskAt s t ≡ 0). omega arith) in
     (p, u, ap (taskAt (withWait s t p)) e ∙ getD-set-same (s .tasks) t (waitsOn p) 0 b, o, inr m)
@@ -163,14 +175,17 @@ later {t = t} {ws = ws} v p u q k = record { waits = k .waits; owner = k .owner;
 pair-of : {s : Tables} {t v p : ℕ} {ws : List ℕ} → LeadsTo s t v p ws → {u q : ℕ} → Pair u q ws → InPair s t ws u q
 pair-of {t = t} (at-last w o) this-pair = record { waits = w; owner = t; owned = o; next = inl refl }
 pair-of (at-last w o) (later-pair i) = elim i [ ]
-pair-of (and-then {u = u} {q = q} w o n r) this-pair = record { waits = w; owner = u; owned = o; next = inr (q, later-pair (first-pair r)) }
+pair-of (and-then {u = u} {q = q} w o n r) this-pair =
+    record { waits = w; owner = u; owned = o; next = inr (q, later-pair (first-pair r)) }
 pair-of (and-then w o n r) (later-pair i) = later _ _ _ _ (pair-of r i)
 
 -- the same words, the same ring
 leads-same : {s s′ : Tables} {t v p : ℕ} {ws : List ℕ} → LeadsTo s t v p ws
-    → ((u q : ℕ) → Pair u q ws → taskAt s u ≡ waitsOn q → (taskAt s′ u ≡ taskAt s u) × (promiseAt s′ q ≡ promiseAt s q)) → LeadsTo s′ t v p ws
+    → ((u q : ℕ) → Pair u q ws → taskAt s u ≡ waitsOn q → (taskAt s′ u ≡ taskAt s u) × (promiseAt s′ q ≡ promiseAt s q))
+    → LeadsTo s′ t v p ws
 leads-same (at-last {v = v} {p = p} w o) same = let (a, b) = same v p this-pair w in at-last (a ∙ w) (b ∙ o)
-leads-same (and-then {v = v} {p = p} w o n r) same = let (a, b) = same v p this-pair w in and-then (a ∙ w) (b ∙ o) n (leads-same r (λ u q i. same u q (later-pair i)))
+leads-same (and-then {v = v} {p = p} w o n r) same =
+    let (a, b) = same v p this-pair w in and-then (a ∙ w) (b ∙ o) n (leads-same r (λ u q i. same u q (later-pair i)))
 
 module _ (s : Tables) (t p : ℕ) (ws : List ℕ) (ring : Stands s t p ws) where
   -- who runs into a ring waits for another who does
@@ -214,7 +229,9 @@ module _ (s : Tables) (t p : ℕ) (ws : List ℕ) (ring : Stands s t p ws) where
       unfolding first
       outsider-entered v q u r o i =
           guarded-none _ (first (boundsRows F n s)) s _ (rw bounds)
-          ∙ guarded-none _ _ s _ (ready-acts (s .tasks) v r (getRows (s .promises) q) ∙ made-passes (s .promises) q (λ (z : promiseAt s q ≡ unmadeWord). omega arith))
+          ∙ guarded-none _ _ s _
+          (ready-acts (s .tasks) v r (getRows (s .promises) q)
+          ∙ made-passes (s .promises) q (λ (z : promiseAt s q ≡ unmadeWord). omega arith))
           ∙ got-entered (RunsInto s ws) s into-stuck F (fits F apart s sizes) v q u r o i
 
       -- with the test, every step is refused by 2
@@ -231,9 +248,11 @@ module _ (s : Tables) (t p : ℕ) (ws : List ℕ) (ring : Stands s t p ws) where
 -- ---- the ring of an alarm
 
 -- an alarm of the rules without the test, on a promise that a task owns
-module _ (F : Form) (apart : Apart F) (n : ℕ) (s : Tables) (t p k u : ℕ) (h : u < length (s .tasks)) (o : promiseAt s p ≡ ownedBy u) where
+module _ (F : Form) (apart : Apart F) (n : ℕ) (s : Tables) (t p k u : ℕ) (h : u < length (s .tasks))
+    (o : promiseAt s p ≡ ownedBy u) where
   -- had the wait been entered, its ring would stand
-  untested-stands : untested F n s (step-get t p) .answer ≡ Cycle k → Stands (withWait s t p) t p (untested F n s (step-get t p) .words)
+  untested-stands : untested F n s (step-get t p) .answer ≡ Cycle k
+      → Stands (withWait s t p) t p (untested F n s (step-get t p) .words)
   untested-stands alarm =
       let (y, z, e) = let-through F s (step-get t p) (boundsRows F n s) (Cycle k) (λ r. elim r [ ]) alarm in
       let (act, z₁) = actorRows-none (s .tasks) t (getRows (s .promises) p) z in
@@ -245,7 +264,8 @@ module _ (F : Form) (apart : Apart F) (n : ℕ) (s : Tables) (t p k u : ℕ) (h 
   untested-stays alarm = ring-stays (withWait s t p) t p _ (untested-stands alarm) F
 
 -- an alarm
-module _ (F : Form) (apart : Apart F) (n : ℕ) (s : Tables) (t p k : ℕ) (alarm : step F n s (step-get t p) .answer ≡ Cycle k) where
+module _ (F : Form) (apart : Apart F) (n : ℕ) (s : Tables) (t p k : ℕ)
+    (alarm : step F n s (step-get t p) .answer ≡ Cycle k) where
   pub alarm-stays : (xs : List LentStep) → Stands (hadWaited F s t p xs) t p (step F n s (step-get t p) .words)
   alarm-stays = ring-stays (withWait s t p) t p _ (alarm-means F apart n s t p k alarm .ring) F
 

@@ -1,23 +1,25 @@
--- The test of sound tables passes exactly on sound tables, and a chain has fewer links than there are live tasks. So how far the test follows a chain is no
--- part of the meaning. Assumes nothing.
+-- The test of sound tables passes exactly on sound tables, and a chain has fewer links than there are live tasks. So
+-- how far the test follows a chain is no part of the meaning. Assumes nothing.
 use mathlib.Core.Path.{_≡_, refl, ap, subst, _∙_}
 use mathlib.Core.Logic.{_⊎_, inl, inr}
 use mathlib.Core.List.{List, _∷_}
-use mathlib.Core.Bool.{true, _&&_, _||_}
+use mathlib.Core.Bool.{Bool, true, _&&_, _||_}
 use Prim.Native.Nat.{ℕ, suc, _+_, _-_, _≤_, _<_}
 use native.Mathlib.Omega.{arith}
 use native.Mathlib.Decide.{decLt}
 use lib.Dec.{eqb, leb, ltb}
 use borrow.Author.Tests.{eqb-true, leb-true, ltb-true, eq-eqb, le-leb, lt-ltb}
 use lib.ListN.{length, List·getD-eq-default}
-use Rattle.words.specs.Words.{unusedWord, readyWord, endedWord, waitsOn, firstWait, unmadeWord, setWord, ownedBy, firstOwned, blamedOn}
+use Rattle.words.specs.Words.{unusedWord, readyWord, endedWord, waitsOn, firstWait, unmadeWord, setWord, ownedBy}
+use Rattle.words.specs.Words.{firstOwned, blamedOn}
 use Rattle.words.specs.Lists.{allBelow}
 use Rattle.words.proofs.BoolLaws.{and-yes, and-split, or-split, or-left, or-right}
 use Rattle.words.proofs.ListLaws.{allBelow-at, allBelow-make, count-le, pigeon}
 use Rattle.rules.specs.Tables.{Tables, taskAt, promiseAt, live, Live, waiting, liveTasks}
 use Rattle.rules.specs.Chains.{Chain, here, link, Comes, WaitsFor, view, awaitedBy}
 use Rattle.rules.specs.Chains as chains
-use Rattle.rules.specs.Sound.{TaskWord, unused, ready, ended, waits, PromiseWord, unmade, done, owned, blamed, Sound, comes, taskPasses, promisePasses, soundTest}
+use Rattle.rules.specs.Sound.{TaskWord, unused, ready, ended, waits, PromiseWord, unmade, done, owned, blamed}
+use Rattle.rules.specs.Sound.{Sound, comesInTime, taskPasses, promisePasses, soundTest}
 use Rattle.rules.proofs.BoundsLaws.{live-ready, live-waits}
 use Rattle.rules.proofs.GraphLaws.{on-chain, no-dup}
 use Rattle.rules.proofs.Moves.{det}
@@ -26,7 +28,9 @@ use Rattle.rules.proofs.WalkLaws.{comes-chain, chain-comes}
 -- ---- the bound
 
 pub chain-bound : (s : Tables) {v : ℕ} {l : List ℕ} → Chain (chains.waits s) v l → suc (length l) ≤ liveTasks s
-chain-bound s {v} {l} c = pigeon live refl (v ∷ l) (s .tasks) (no-dup (chains.waits s) (det (length (s .tasks)) (view s)) c) (λ x i. go x (on-chain (chains.waits s) c i))
+chain-bound s {v} {l} c =
+    pigeon live refl (v ∷ l) (s .tasks) (no-dup (chains.waits s) (det (length (s .tasks)) (view s)) c)
+    (λ x i. go x (on-chain (chains.waits s) c i))
   where
     go : (x : ℕ) → (taskAt s x ≡ readyWord) ⊎ ((w : ℕ) × (u : ℕ) × WaitsFor (length (s .tasks)) (view s) x w u)
         → Live (taskAt s x)
@@ -48,6 +52,10 @@ module _ (B : ℕ) (s : Tables) where
     p-owned : (u : ℕ) → u < length (s .tasks) → promiseAt s q ≡ ownedBy u → Live (taskAt s u) → PromIs q
     p-blamed : (u : ℕ) → u < length (s .tasks) → promiseAt s q ≡ blamedOn B u → taskAt s u ≡ endedWord → PromIs q
 
+  -- what the test asks of a task that waits
+  abbrev waits-well : ℕ → Bool
+  waits-well v = waiting (taskAt s v) && ltb (awaitedBy (view s) v) (length (s .promises)) && comesInTime s v
+
   task-is : (v : ℕ) → taskPasses s v ≡ true → TaskIs v
   unfolding taskPasses
   task-is v e = go₃ (or-split _ _ e)
@@ -61,13 +69,21 @@ module _ (B : ℕ) (s : Tables) where
       go₂ (inr a) = t-ended (eqb-true _ _ a)
 
       go₃ : ((eqb (taskAt s v) 0 || eqb (taskAt s v) 1 || eqb (taskAt s v) 2) ≡ true)
-          ⊎ ((waiting (taskAt s v) && ltb (awaitedBy (view s) v) (length (s .promises)) && comes (length (s .tasks)) (length (s .tasks)) (view s) v) ≡ true) → TaskIs v
+          ⊎ (waits-well v ≡ true) → TaskIs v
       go₃ (inl a) = go₂ (or-split _ _ a)
       go₃ (inr a) =
           let (bc, r) = and-split _ _ a in
           let (b, c) = and-split _ _ bc in
           let h : 16 ≤ taskAt s v = leb-true firstWait (taskAt s v) b in
-          t-waits (awaitedBy (view s) v) (ltb-true _ _ c) (omega arith) (comes-chain (length (s .tasks)) (view s) (length (s .tasks)) v r)
+          t-waits (awaitedBy (view s) v) (ltb-true _ _ c) (omega arith)
+          (comes-chain (length (s .tasks)) (view s) (length (s .tasks)) v r)
+
+  -- what the test asks of a word that names an owner, and of one that blames
+  abbrev owned-by : ℕ → Bool
+  owned-by w = leb firstOwned w && ltb (w - firstOwned) (length (s .tasks)) && live (taskAt s (w - firstOwned))
+
+  abbrev blamed-on : ℕ → Bool
+  blamed-on w = leb B w && ltb (w - B) (length (s .tasks)) && eqb (taskAt s (w - B)) endedWord
 
   prom-is : (q : ℕ) → promisePasses B s q ≡ true → PromIs q
   unfolding promisePasses
@@ -77,8 +93,7 @@ module _ (B : ℕ) (s : Tables) where
       go₁ (inl a) = p-unmade (eqb-true _ _ a)
       go₁ (inr a) = p-done (eqb-true _ _ a)
 
-      go₂ : ((eqb (promiseAt s q) 0 || eqb (promiseAt s q) 1) ≡ true)
-          ⊎ ((leb firstOwned (promiseAt s q) && ltb (promiseAt s q - firstOwned) (length (s .tasks)) && live (taskAt s (promiseAt s q - firstOwned))) ≡ true) → PromIs q
+      go₂ : ((eqb (promiseAt s q) 0 || eqb (promiseAt s q) 1) ≡ true) ⊎ (owned-by (promiseAt s q) ≡ true) → PromIs q
       go₂ (inl a) = go₁ (or-split _ _ a)
       go₂ (inr a) =
           let (bc, r) = and-split _ _ a in
@@ -86,8 +101,8 @@ module _ (B : ℕ) (s : Tables) where
           let h : 16 ≤ promiseAt s q = leb-true firstOwned (promiseAt s q) b in
           p-owned (promiseAt s q - firstOwned) (ltb-true _ _ c) (omega arith) r
 
-      go₃ : ((eqb (promiseAt s q) 0 || eqb (promiseAt s q) 1 || (leb firstOwned (promiseAt s q) && ltb (promiseAt s q - firstOwned) (length (s .tasks)) && live (taskAt s (promiseAt s q - firstOwned)))) ≡ true)
-          ⊎ ((leb B (promiseAt s q) && ltb (promiseAt s q - B) (length (s .tasks)) && eqb (taskAt s (promiseAt s q - B)) 2) ≡ true) → PromIs q
+      go₃ : ((eqb (promiseAt s q) 0 || eqb (promiseAt s q) 1 || owned-by (promiseAt s q)) ≡ true)
+          ⊎ (blamed-on (promiseAt s q) ≡ true) → PromIs q
       go₃ (inl a) = go₂ (or-split _ _ a)
       go₃ (inr a) =
           let (bc, r) = and-split _ _ a in
@@ -109,7 +124,10 @@ module _ (B : ℕ) (s : Tables) where
     prom-at q = go (decLt q (length (s .promises)))
       where
         go : Dec (q < length (s .promises)) → PromIs q
-        go (yes h) = prom-is q (allBelow-at (length (s .promises)) (promisePasses B s) (and-split (allBelow (length (s .tasks)) (taskPasses s)) _ e .1) q h)
+        go (yes h) =
+            prom-is q
+            (allBelow-at (length (s .promises)) (promisePasses B s)
+            (and-split (allBelow (length (s .tasks)) (taskPasses s)) _ e .1) q h)
         go (no n) = p-unmade (List·getD-eq-default (s .promises) 0 (omega arith))
 
   task-word-of : (v : ℕ) → TaskIs v → TaskWord (length (s .promises)) (taskAt s v)
@@ -130,7 +148,8 @@ module _ (B : ℕ) (s : Tables) where
   ground-of v p w (t-ended e) = absurd (omega arith)
   ground-of v p w (t-waits q h e g) = g
 
-  owned-of : (v p : ℕ) {l : List ℕ} → taskAt s v ≡ waitsOn p → Chain (chains.waits s) v l → (u : ℕ) × (u < length (s .tasks)) × (promiseAt s p ≡ ownedBy u)
+  owned-of : (v p : ℕ) {l : List ℕ} → taskAt s v ≡ waitsOn p → Chain (chains.waits s) v l
+      → (u : ℕ) × (u < length (s .tasks)) × (promiseAt s p ≡ ownedBy u)
   owned-of v p w (here r) = absurd (omega arith)
   owned-of v p w (link {p = q} {u = u} k c) =
       let z : p ≡ q = omega (arith, k .waits) in
@@ -168,9 +187,12 @@ module _ (B : ℕ) (s : Tables) where
     task-pass v (ended e) = or-left _ _ (or-right (eqb (taskAt s v) 0 || eqb (taskAt s v) 1) _ (eq-eqb _ _ e))
     task-pass v (waits p h e) =
         let (l, c) = sd .chainComes v p e in
+        let waits-on = le-leb firstWait (taskAt s v) (omega arith) in
+        let on-one = lt-ltb (awaitedBy (view s) v) (length (s .promises)) (omega arith) in
+        let few : length l < length (s .tasks) = omega (arith, chain-bound s c, count-le live (s .tasks)) in
         or-right (eqb (taskAt s v) 0 || eqb (taskAt s v) 1 || eqb (taskAt s v) 2) _
-        (and-yes _ _ (and-yes _ _ (le-leb firstWait (taskAt s v) (omega arith)) (lt-ltb (awaitedBy (view s) v) (length (s .promises)) (omega arith)))
-        (chain-comes (length (s .tasks)) (view s) (length (s .tasks)) c (omega (arith, chain-bound s c, count-le live (s .tasks)))))
+        (and-yes _ _ (and-yes _ _ waits-on on-one)
+        (chain-comes (length (s .tasks)) (view s) (length (s .tasks)) c few))
 
     prom-pass : (q : ℕ) → PromiseWord (length (s .tasks)) B (promiseAt s q) → promisePasses B s q ≡ true
     unfolding promisePasses
@@ -178,15 +200,20 @@ module _ (B : ℕ) (s : Tables) where
     prom-pass q (done e) = or-left _ _ (or-left _ _ (or-right (eqb (promiseAt s q) 0) _ (eq-eqb _ _ e)))
     prom-pass q (owned u h e) =
         let z : promiseAt s q - firstOwned ≡ u = omega arith in
+        let owned = le-leb firstOwned (promiseAt s q) (omega arith) in
+        let by-one = lt-ltb (promiseAt s q - firstOwned) (length (s .tasks)) (omega arith) in
         or-left _ _ (or-right (eqb (promiseAt s q) 0 || eqb (promiseAt s q) 1) _
-        (and-yes _ _ (and-yes _ _ (le-leb firstOwned (promiseAt s q) (omega arith)) (lt-ltb (promiseAt s q - firstOwned) (length (s .tasks)) (omega arith)))
-        (ap (λ (x : ℕ). live (taskAt s x)) z ∙ sd .ownerLive q u h e)))
+        (and-yes _ _ (and-yes _ _ owned by-one) (ap (λ (x : ℕ). live (taskAt s x)) z ∙ sd .ownerLive q u h e)))
     prom-pass q (blamed u h e) =
         let z : promiseAt s q - B ≡ u = omega arith in
-        or-right (eqb (promiseAt s q) 0 || eqb (promiseAt s q) 1 || (leb firstOwned (promiseAt s q) && ltb (promiseAt s q - firstOwned) (length (s .tasks)) && live (taskAt s (promiseAt s q - firstOwned)))) _
-        (and-yes _ _ (and-yes _ _ (le-leb B (promiseAt s q) (omega arith)) (lt-ltb (promiseAt s q - B) (length (s .tasks)) (omega arith)))
+        let blamed = le-leb B (promiseAt s q) (omega arith) in
+        let on-one = lt-ltb (promiseAt s q - B) (length (s .tasks)) (omega arith) in
+        or-right (eqb (promiseAt s q) 0 || eqb (promiseAt s q) 1 || owned-by (promiseAt s q)) _
+        (and-yes _ _ (and-yes _ _ blamed on-one)
         (ap (λ (x : ℕ). eqb (taskAt s x) 2) z ∙ eq-eqb _ _ (sd .blamedEnded q u h e)))
 
     pub sound-soundTest : soundTest B s ≡ true
     unfolding soundTest
-    sound-soundTest = and-yes _ _ (allBelow-make (length (s .tasks)) (taskPasses s) (λ v h. task-pass v (sd .taskWord v))) (allBelow-make (length (s .promises)) (promisePasses B s) (λ q h. prom-pass q (sd .promiseWord q)))
+    sound-soundTest =
+        and-yes _ _ (allBelow-make (length (s .tasks)) (taskPasses s) (λ v h. task-pass v (sd .taskWord v)))
+        (allBelow-make (length (s .promises)) (promisePasses B s) (λ q h. prom-pass q (sd .promiseWord q)))

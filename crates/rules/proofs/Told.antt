@@ -1,5 +1,6 @@
--- The number and the values of a step's answer tell the answer: `answerOf` (specs/Answers.antt) reads it back. For one given
--- step its four words do: whether a place or a blamed task stands in them follows from the step and the number. Assumes nothing.
+-- The number and the values of a step's answer tell the answer: `answerOf` (specs/Answers.antt) reads it back. For one
+-- given step its four words do: whether a place or a blamed task stands in them follows from the step and the number.
+-- Assumes nothing.
 use mathlib.Core.Path.{_≡_, refl, sym, subst, _∙_}
 use mathlib.Core.Logic.{_⊎_, inl, inr}
 use mathlib.Core.List.{List}
@@ -13,23 +14,14 @@ use Rattle.words.specs.Lists.{In}
 use Rattle.words.proofs.BoolLaws.{not-is-true}
 use Rattle.words.proofs.ListLaws.{in-passes, isIn}
 use Rattle.rules.specs.Tables.{Tables}
-use Rattle.rules.specs.Answers.{
-  laid,
-  numberOf,
-  valuesOf,
-  refusalOf,
-  accepted,
-  answerOf,
-  SameWords,
-  byNumber,
-  refusedWith,
-  refusedAtWith,
-}
+use Rattle.rules.specs.Answers.{laid, numberOf, valuesOf, refusalOf, accepted, answerOf, SameWords, byNumber}
+use Rattle.rules.specs.Answers.{refusedWith, refusedAtWith}
 use Rattle.rules.specs.Steps.{Step, step-new, step-set, step-get, step-async, step-end, stepRefused, step}
 use Rattle.rules.specs.Demands.{paperRows, paperEntryRows, BadPlace, Refusal, HowRefused, by-row, for-entry}
 use Rattle.rules.specs.declared.Answer.{Answer}
 use Rattle.rules.specs.declared.Answer.the-variants.{Opened}
-use Rattle.rules.proofs.AnswerLaws.{Accepted, accepted-or-refused, with-by, at-with-by, stepRefused-by, stepRefused-number}
+use Rattle.rules.proofs.AnswerLaws.{Accepted, accepted-or-refused, with-by, at-with-by, stepRefused-by}
+use Rattle.rules.proofs.AnswerLaws.{stepRefused-number}
 use Rattle.rules.proofs.Order.{papers-order, given-in, refused-first, placed-first, how-refused, refusal-passes}
 
 -- ---- the number and the values
@@ -119,6 +111,7 @@ module _ (F : Form) (n : ℕ) (s : Tables) where
       go (inl c) = accepted-read x c
       go (inr w) = refused-read x (how-refused F n s x w) refl (refusal-passes (λ r. ltb r 100) refl F n s x w)
 
+-- two answers to one step with the same four words are read back alike
 pub words-tell : (F : Form) (x : Step) (n n′ : ℕ) (s s′ : Tables)
     → SameWords (step F n s x .answer) (step F n′ s′ x .answer) → step F n s x .answer ≡ step F n′ s′ x .answer
 words-tell F x n n′ s s′ e = sym (step-read F n s x) ∙ rw (e .number, e .first, e .second) (step-read F n′ s′ x)

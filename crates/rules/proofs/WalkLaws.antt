@@ -1,5 +1,5 @@
--- The walks that compute, with a bound on their hops, against the chains: what they find is a chain, and a chain is found if the bound allows for it. The laws
--- of `walk` are said as a loop wants them. Assumes nothing.
+-- The walks that compute, with a bound on their hops, against the chains: what they find is a chain, and a chain is
+-- found if the bound allows for it. The laws of `walk` are said as a loop wants them. Assumes nothing.
 use mathlib.Core.Path.{_≡_, refl, sym, ap, ap₂, _∙_}
 use mathlib.Core.Logic.{_≢_}
 use mathlib.Core.List.{List, [], _∷_}
@@ -21,7 +21,8 @@ module _ (T : ℕ) (s : View) (w : ℕ) where
   pub data HopIs : Type 0 where
     is-ready : w ≡ readyWord → hopWord T s w ≡ ready → HopIs
     is-to : (p u : ℕ) → w ≡ waitsOn p → s .promise p ≡ ownedBy u → u < T → hopWord T s w ≡ to u → HopIs
-    is-lost : w ≢ readyWord → ((p u : ℕ) → w ≡ waitsOn p → s .promise p ≡ ownedBy u → u < T → ⊥) → hopWord T s w ≡ lost → HopIs
+    is-lost : w ≢ readyWord → ((p u : ℕ) → w ≡ waitsOn p → s .promise p ≡ ownedBy u → u < T → ⊥) → hopWord T s w ≡ lost
+        → HopIs
 
   pub hop-yes : w ≡ readyWord → hopWord T s w ≡ ready
   hop-yes e = rw (eq-eqb w readyWord e)
@@ -32,17 +33,22 @@ module _ (T : ℕ) (s : View) (w : ℕ) where
       let j : s .promise (w - firstWait) ≡ ownedBy u = ap (λ (x : ℕ). s .promise x) i ∙ o in
       let a : eqb w readyWord ≡ false = ne-eqb w readyWord (λ (z : w ≡ readyWord). omega arith) in
       let b : leb firstWait w ≡ true = le-leb firstWait w (omega arith) in
-      let c : leb firstWait (s .promise (w - firstWait)) ≡ true = le-leb firstWait (s .promise (w - firstWait)) (omega arith) in
-      let d : ltb (s .promise (w - firstWait) - firstOwned) T ≡ true = lt-ltb (s .promise (w - firstWait) - firstOwned) T (omega arith) in
+      let c : leb firstWait (s .promise (w - firstWait)) ≡ true =
+      le-leb firstWait (s .promise (w - firstWait)) (omega arith) in
+      let d : ltb (s .promise (w - firstWait) - firstOwned) T ≡ true =
+      lt-ltb (s .promise (w - firstWait) - firstOwned) T (omega arith) in
       rw (a, b, c, d) (ap to (omega arith))
 
   pub hopIs : HopIs
-  hopIs = go (ℕ-discrete w 1) (leb firstWait w) refl (leb firstWait (s .promise (w - firstWait)) && ltb (s .promise (w - firstWait) - firstOwned) T) refl
+  hopIs =
+      go (ℕ-discrete w 1) (leb firstWait w) refl
+      (leb firstWait (s .promise (w - firstWait)) && ltb (s .promise (w - firstWait) - firstOwned) T) refl
     where
       at : (p u : ℕ) → w ≡ waitsOn p → s .promise p ≡ ownedBy u → s .promise (w - firstWait) ≡ ownedBy u
       at p u e o = ap (λ (x : ℕ). s .promise x) (omega arith) ∙ o
 
-      go : Dec (w ≡ readyWord) → (a : Bool) → leb firstWait w ≡ a → (b : Bool) → (leb firstWait (s .promise (w - firstWait)) && ltb (s .promise (w - firstWait) - firstOwned) T) ≡ b → HopIs
+      go : Dec (w ≡ readyWord) → (a : Bool) → leb firstWait w ≡ a → (b : Bool)
+          → (leb firstWait (s .promise (w - firstWait)) && ltb (s .promise (w - firstWait) - firstOwned) T) ≡ b → HopIs
       go (yes e) a x b y = is-ready e (hop-yes e)
       go (no n) true x true y =
           let (c, d) = and-split _ _ y in
@@ -50,12 +56,17 @@ module _ (T : ℕ) (s : View) (w : ℕ) where
           let lo : 16 ≤ s .promise (w - firstWait) = leb-true firstWait (s .promise (w - firstWait)) c in
           let lt : s .promise (w - firstWait) - firstOwned < T = ltb-true _ _ d in
           let o : s .promise (w - firstWait) ≡ 16 + (s .promise (w - firstWait) - firstOwned) = omega arith in
-          is-to (w - firstWait) (s .promise (w - firstWait) - firstOwned) (omega arith) o lt (hop-to (w - firstWait) (s .promise (w - firstWait) - firstOwned) (omega arith) o lt)
+          is-to (w - firstWait) (s .promise (w - firstWait) - firstOwned) (omega arith) o lt
+          (hop-to (w - firstWait) (s .promise (w - firstWait) - firstOwned) (omega arith) o lt)
       go (no n) true x false y =
           is-lost n
           (λ p u e o h.
           let j : s .promise (w - firstWait) ≡ ownedBy u = at p u e o in
-          let z : true ≡ false = sym (and-yes _ _ (le-leb firstWait (s .promise (w - firstWait)) (omega arith)) (lt-ltb (s .promise (w - firstWait) - firstOwned) T (omega arith))) ∙ y in
+          let z : true ≡ false =
+          sym
+          (and-yes _ _ (le-leb firstWait (s .promise (w - firstWait)) (omega arith))
+          (lt-ltb (s .promise (w - firstWait) - firstOwned) T (omega arith)))
+          ∙ y in
           let k : _≡_ {A = ℕ} 0 1 = cc in
           omega arith)
           (rw (ne-eqb w readyWord n, x, y))
@@ -68,7 +79,8 @@ module _ (T : ℕ) (s : View) (w : ℕ) where
           (rw (ne-eqb w readyWord n, x))
 
   -- every other word is lost
-  pub hop-lost : w ≢ readyWord → ((p u : ℕ) → w ≡ waitsOn p → s .promise p ≡ ownedBy u → u < T → ⊥) → hopWord T s w ≡ lost
+  pub hop-lost : w ≢ readyWord → ((p u : ℕ) → w ≡ waitsOn p → s .promise p ≡ ownedBy u → u < T → ⊥)
+      → hopWord T s w ≡ lost
   hop-lost n m = go hopIs
     where
       go : HopIs → hopWord T s w ≡ lost
@@ -137,10 +149,11 @@ module _ (T : ℕ) (s : View) where
       let f : hop T s v ≡ to u = hop-to T s (s .task v) p u (k .waits) (k .owned) (k .below) in
       rw f (chain-comes n c (omega arith))
 
-  -- The walk from u on behalf of a ready task t comes back to t if the chain of u ends at t, and otherwise to another ready task. Either way it
-  -- has reached the tasks of the chain.
+  -- The walk from u on behalf of a ready task t comes back to t if the chain of u ends at t, and otherwise to another
+  -- ready task. Either way it has reached the tasks of the chain.
   module _ (t : ℕ) (r : s .task t ≡ readyWord) where
-    pub walk-back : (n k : ℕ) {u : ℕ} {l : List ℕ} → Chain (graph T s) u l → length l < n → chainEnd u l ≡ t → walk n T s t u k ≡ back (k + length l)
+    pub walk-back : (n k : ℕ) {u : ℕ} {l : List ℕ} → Chain (graph T s) u l → length l < n → chainEnd u l ≡ t
+        → walk n T s t u k ≡ back (k + length l)
     unfolding walk hop
     walk-back zero k c h e = absurd (omega arith)
     walk-back (suc n) k (here {t = u} q) h e = rw (eq-eqb u t e) (ap back (omega arith))
@@ -149,7 +162,8 @@ module _ (T : ℕ) (s : View) where
         let g : eqb v t ≡ false = ne-eqb v t (λ (z : v ≡ t). omega (arith, j .waits, ap (λ (x : ℕ). s .task x) z)) in
         rw (g, f) (walk-back n (suc k) c (omega arith) e ∙ ap back (omega arith))
 
-    pub walk-free : (n k : ℕ) {u : ℕ} {l : List ℕ} → Chain (graph T s) u l → length l < n → chainEnd u l ≢ t → walk n T s t u k ≡ free (k + length l)
+    pub walk-free : (n k : ℕ) {u : ℕ} {l : List ℕ} → Chain (graph T s) u l → length l < n → chainEnd u l ≢ t
+        → walk n T s t u k ≡ free (k + length l)
     unfolding walk hop
     walk-free zero k c h e = absurd (omega arith)
     walk-free (suc n) k (here {t = u} q) h e = rw (ne-eqb u t e, hop-yes T s (s .task u) q) (ap free (omega arith))

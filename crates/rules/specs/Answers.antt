@@ -1,7 +1,8 @@
 -- The paper's number and values for each answer. Paper: 01, "The five steps", "Refusals by number", "Lines"; 02, 3/13.
 --
---   laid a                the layout of an answer: whether it refuses, its number, and its values, each with how many words of the report follow it. All else is
---                         read off it: both forms of an answer, in four words and as a line
+--   laid a                the layout of an answer: whether it refuses, its number, and its values, each with how many
+--                         words of the report follow it. All else is read off it: both forms of an answer, in four
+--                         words and as a line
 --   numberOf a            a refusal's number; for any other answer a number of ours, from 100 on
 --   valuesOf a            the counts and numbers that the answer carries, in the order of the answer line
 --   wordCount a           how many words of the report are the answer's own
@@ -20,7 +21,8 @@ use lib.ListN.{getD}
 use Rattle.rules.specs.declared.Part.{Part}
 use Rattle.rules.specs.declared.Layout.{Layout}
 use Rattle.rules.specs.declared.Answer.{Answer}
-use Rattle.rules.specs.declared.Answer.the-variants.{Opened, Made, Set, Value, Blamed, Waits, Cycle, Started, Ended, Refused, RefusedAt, RefusedBlamed, RefusedBlamedAt}
+use Rattle.rules.specs.declared.Answer.the-variants.{Opened, Made, Set, Value, Blamed, Waits, Cycle, Started}
+use Rattle.rules.specs.declared.Answer.the-variants.{Ended, Refused, RefusedAt, RefusedBlamed, RefusedBlamedAt}
 
 abbrev pub none : Part
 none = record { told = false; value = 0; words = 0 }
@@ -81,7 +83,7 @@ accepted v w = Opened ∷ Made ∷ Set v ∷ Value ∷ Blamed v ∷ Waits v ∷ 
 unfoldable pub answerOf : ℕ → List ℕ → Answer
 answerOf n vs = cond (ltb n 100) (refusalOf n vs) (getD (accepted (getD vs 0 0) (getD vs 1 0)) (n - 100) Opened)
 
--- for callers that know numbers alone
+-- the four words of two answers, for callers that know numbers alone; a value that is not there is 0
 pub record SameWords (a a′ : Answer) : Type 0 where
   pub number : laid a .number ≡ laid a′ .number
   pub first : laid a .first .value ≡ laid a′ .first .value

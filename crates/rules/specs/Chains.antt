@@ -26,7 +26,8 @@ viewOf ts ps = record { task = λ t. getD ts t 0; promise = λ p. getD ps p 0 }
 abbrev pub view : Tables → View
 view s = viewOf (s .tasks) (s .promises)
 
--- "16+p waits on p", "16+t owned by t", read back: the promise that t awaits, if it waits, and the task that owns p, if it is owned
+-- "16+p waits on p", "16+t owned by t", read back: the promise that t awaits, if it waits, and the task that owns p, if
+-- it is owned
 abbrev pub awaitedBy : View → ℕ → ℕ
 awaitedBy s t = s .task t - firstWait
 
@@ -49,8 +50,8 @@ graph T s = record { ready = λ t. s .task t ≡ readyWord; link = WaitsFor T s 
 abbrev pub waits : Tables → Graph
 waits s = graph (length (s .tasks)) (view s)
 
--- "The chain of a waiting task: the owner of what it awaits, then the owner of what that one awaits, and so on. Its links are the owners on it."
--- The chain of a ready task has no link.
+-- "The chain of a waiting task: the owner of what it awaits, then the owner of what that one awaits, and so on. Its
+-- links are the owners on it." The chain of a ready task has no link.
 pub data Chain (g : Graph) : ℕ → List ℕ → Type 0 where
   here : {t : ℕ} → g .ready t → Chain g t []
   link : {t p u : ℕ} {l : List ℕ} → g .link t p u → Chain g u l → Chain g t (u ∷ l)

@@ -1,18 +1,21 @@
 -- What is demanded of the rules, as statements. The theorems stand in proofs/Promises.antt.
 --
---   Apart F, Good F s                   a form whose owned and blamed words do not meet; tables whose sizes fit, and sound
---   numbers rows, paperRows x           the numbers of the rows; those of the paper's table
---   paperNumbers x, stepNumbers         all numbers that a step, and that any step, may be refused by
---   FirstGiven r rows                   r is the number of the first row that applies
---   BadPlace B ps t list r i            i is the first bad place of an async list of t, refused by r
---   Refusal a, HowRefused F s x a       the answer a is a refusal; it refuses the step x by a row, or for an entry of a list
---   OwnersFrom s p l                    l are the owners that follow from p, to a ready task
---   LeadsTo s t v p ws                  from v, which waits on p, the pairs ws lead to t
---   Stands s t p ws                     the ring of the pairs ws stands: from t, which waits on p, they lead back to t
---   Alarm, Wait, Named, Woken, Demand3  what an alarm, a wait, an end, a set means; demand 3
---   hadWaited F s t p xs                the tables, had t waited on p and the steps xs followed, without the soundness test
---   Pair u q ws                         u and q are a pair of the report ws
---   RunsInto s ws v                     the chain of v runs into the ring of the pairs ws
+--   Apart F                        a form whose owned and blamed words do not meet
+--   Good F s                       tables whose sizes fit, and sound
+--   numbers rows, paperRows x      the numbers of the rows; those of the paper's table
+--   paperNumbers x, stepNumbers    all numbers that a step, and that any step, may be refused by
+--   FirstGiven r rows              r is the number of the first row that applies
+--   NoneGiven rows                 none of the rows applies
+--   BadPlace B ps t list r i       i is the first bad place of an async list of t, and its refusal is r
+--   Refusal a, HowRefused F s x a  a is a refusal; it refuses the step x by a row, or for an entry of a list
+--   OwnersFrom s p l               l are the owners that follow from p, to a ready task
+--   LeadsTo s t v p ws             from v, which waits on p, the pairs ws lead to t
+--   Stands s t p ws                the ring of the pairs ws stands: from t, which waits on p, they lead back to t
+--   Alarm, Wait, Named, Woken      what an alarm, a wait, an end, a set means
+--   Demand3 F s                    demand 3, of the tables s
+--   hadWaited F s t p xs           the tables, had t waited on p and the steps xs followed, without the soundness test
+--   Pair u q ws                    u and q are a pair of the report ws
+--   RunsInto s ws v                the chain of v runs into the ring of the pairs ws
 -- Assumes nothing.
 use mathlib.Core.Path.{_≡_}
 use mathlib.Core.Logic.{_≢_}
@@ -27,23 +30,8 @@ use Rattle.rules.specs.Chains.{Chain, chainEnd, waits}
 use Rattle.rules.specs.Sound.{Sound}
 use Rattle.rules.specs.Answers.{refusedAtWith}
 use Rattle.rules.specs.Refusals.{Row, entryRows}
-use Rattle.rules.specs.Steps.{
-  Step,
-  step-new,
-  step-set,
-  step-get,
-  step-async,
-  step-end,
-  actor,
-  Outcome,
-  withWait,
-  stepRefused,
-  step,
-  untested,
-  LentStep,
-  ran,
-  run,
-}
+use Rattle.rules.specs.Steps.{Step, step-new, step-set, step-get, step-async, step-end, actor, Outcome, withWait}
+use Rattle.rules.specs.Steps.{stepRefused, step, untested, LentStep, ran, run}
 use Rattle.rules.specs.declared.Answer.{Answer}
 use Rattle.rules.specs.declared.Answer.the-variants.{Ended, Refused, RefusedAt, RefusedBlamed, RefusedBlamedAt}
 
@@ -61,7 +49,8 @@ abbrev pub numbers : List Row → List ℕ
 numbers [] = []
 numbers ((r, applies) ∷ rows) = r ∷ numbers rows
 
--- the paper's table, from the top, and its last column: which refusals a step has, and in which order; 02, 3/13, puts 17 directly after 9
+-- the paper's table, from the top, and its last column: which refusals a step has, and in which order; 02, 3/13, puts
+-- 17 directly after 9
 abbrev pub paperRows : Step → List ℕ
 paperRows (step-new t p) = 1 ∷ 2 ∷ 3 ∷ 4 ∷ 5 ∷ 6 ∷ 7 ∷ []
 paperRows (step-set t p) = 1 ∷ 2 ∷ 3 ∷ 4 ∷ 5 ∷ 6 ∷ 8 ∷ 9 ∷ 17 ∷ 10 ∷ []
@@ -115,18 +104,21 @@ pub data HowRefused (F : Form) (s : Tables) (x : Step) : Answer → Type 0 where
 
 -- "t1 owns p, t2 owns what t1 awaits, and so on, until .. a ready task"
 pub data OwnersFrom (s : Tables) (p : ℕ) : List ℕ → Type 0 where
-  owners : {u : ℕ} {l : List ℕ} → u < length (s .tasks) → promiseAt s p ≡ ownedBy u → Chain (waits s) u l → OwnersFrom s p (u ∷ l)
+  owners : {u : ℕ} {l : List ℕ} → u < length (s .tasks) → promiseAt s p ≡ ownedBy u → Chain (waits s) u l
+      → OwnersFrom s p (u ∷ l)
 
--- "k pairs: t and p, then each next task on the way and what it awaits, up to the one that awaits a promise of t": v waits on p, the owner of p on the promise that it
--- is shown with, and so on
+-- "k pairs: t and p, then each next task on the way and what it awaits, up to the one that awaits a promise of t": v
+-- waits on p, the owner of p on the promise that it is shown with, and so on
 pub data LeadsTo (s : Tables) (t : ℕ) : ℕ → ℕ → List ℕ → Type 0 where
   at-last : {v p : ℕ} → taskAt s v ≡ waitsOn p → promiseAt s p ≡ ownedBy t → LeadsTo s t v p (v ∷ p ∷ [])
-  and-then : {v p u q : ℕ} {ws : List ℕ} → taskAt s v ≡ waitsOn p → promiseAt s p ≡ ownedBy u → u ≢ t → LeadsTo s t u q ws → LeadsTo s t v p (v ∷ p ∷ ws)
+  and-then : {v p u q : ℕ} {ws : List ℕ} → taskAt s v ≡ waitsOn p → promiseAt s p ≡ ownedBy u → u ≢ t
+      → LeadsTo s t u q ws → LeadsTo s t v p (v ∷ p ∷ ws)
 
 abbrev pub Stands : Tables → ℕ → ℕ → List ℕ → Type 0
 Stands s t p ws = LeadsTo s t t p ws
 
--- t gets p and alarms after k owners: t is ready and not refused, the owners from p lead back to t, and the report shows the ring that would stand if t waited on p
+-- t gets p and alarms after k owners: t is ready and not refused, the owners from p lead back to t, and the report
+-- shows the ring that would stand if t waited on p
 pub record Alarm (s : Tables) (t p k : ℕ) (ws : List ℕ) : Type 0 where
   pub ready : taskAt s t ≡ readyWord
   pub links : List ℕ
@@ -135,7 +127,8 @@ pub record Alarm (s : Tables) (t p k : ℕ) (ws : List ℕ) : Type 0 where
   pub count : k ≡ length links
   pub ring : Stands (withWait s t p) t p ws
 
--- t gets p and waits after k owners: t is ready and not refused, and the owners from p come to a ready task without leading back to t
+-- t gets p and waits after k owners: t is ready and not refused, and the owners from p come to a ready task without
+-- leading back to t
 pub record Wait (s : Tables) (t p k : ℕ) : Type 0 where
   pub ready : taskAt s t ≡ readyWord
   pub links : List ℕ
@@ -177,7 +170,8 @@ pub record Woken (s : Tables) (p n : ℕ) (o : Outcome) : Type 0 where
 
 -- ---- demand 3
 
--- the ends of the tasks of a chain, farthest first; that of u is lent a report of n u words
+-- the ends of the tasks of a chain, farthest first; that of u is lent a report of n u words. No task is on a chain
+-- twice, so that n gives each end a length of its own
 abbrev pub ends : (ℕ → ℕ) → List ℕ → List LentStep
 ends n [] = []
 ends n (u ∷ l) = ends n l ++ (n u, step-end u) ∷ []
@@ -210,7 +204,8 @@ pub record Demand3 (F : Form) (s : Tables) : Type 0 where
 
 -- ---- request 4: "Show that the alarm is real"
 
--- "had the alarmed wait been entered anyway, then after any further accepted steps", by "the step rules, read without the soundness test"
+-- "had the alarmed wait been entered anyway, then after any further accepted steps", by "the step rules, read without
+-- the soundness test"
 abbrev pub hadWaited : Form → Tables → ℕ → ℕ → List LentStep → Tables
 hadWaited F s t p xs = ran (untested F) (withWait s t p) xs
 

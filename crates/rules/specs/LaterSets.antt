@@ -1,5 +1,6 @@
--- The computed sets of later requests. Paper: 02, 3/13 and 4/13. Each is a table as that of specs/ProvedSet.antt, from which it
--- stands apart, and has a theorem of its own under its request. proofs/Cases.antt shows that the rules give each row.
+-- The computed sets of later requests. Paper: 02, 3/13 and 4/13. Each is a table as that of specs/ProvedSet.antt, from
+-- which it stands apart, and has a theorem of its own under its request. proofs/Cases.antt shows that the rules give
+-- each row.
 --
 --   blamedSet             3/13: a blamed promise beside an owned and a set one, set and listed
 --   ringSet               4/13: a ring that was entered, beside a ready task
@@ -10,17 +11,8 @@ use Rattle.words.specs.Words.{small}
 use Rattle.rules.specs.Tables.{Tables, tables}
 use Rattle.rules.specs.Steps.{step-set, step-get, step-async, step-end, Outcome, untested}
 use Rattle.rules.specs.ProvedSet.{Case, case}
-use Rattle.rules.specs.declared.Answer.the-variants.{
-  Blamed,
-  Waits,
-  Cycle,
-  Started,
-  Ended,
-  Refused,
-  RefusedAt,
-  RefusedBlamed,
-  RefusedBlamedAt,
-}
+use Rattle.rules.specs.declared.Answer.the-variants.{Blamed, Waits, Cycle, Started, Ended, Refused, RefusedAt}
+use Rattle.rules.specs.declared.Answer.the-variants.{RefusedBlamed, RefusedBlamedAt}
 
 -- ---- request 3
 

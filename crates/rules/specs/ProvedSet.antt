@@ -1,7 +1,9 @@
--- The proved set. Paper: 01, "Either side of each edge": the eleven steps of the run, its open line left out, and the four cases marked *. The third of these
--- has two sides and so two rows. proofs/Cases.antt shows that the rules give each row.
+-- The proved set. Paper: 01, "Either side of each edge": the eleven steps of the run, its open line left out, and the
+-- four cases marked *. The third of these has two sides and so two rows. proofs/Cases.antt shows that the rules give
+-- each row.
 --
---   Case                  the tables before, the report's length and the step; then what is expected: the answer, the tables after, the report words
+--   Case                  the tables before, the report's length and the step; then what is expected: the answer, the
+--                         tables after, the report words
 --   provedSet             the table
 --   taken c, expected c   what the rules say of a row, and what the row says
 -- Assumes nothing.

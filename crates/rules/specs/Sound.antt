@@ -1,9 +1,11 @@
--- Sound tables: as a statement to read, and as a test that computes. Paper: 01, "Tables and words". proofs/SoundTest.antt shows that the two agree.
+-- Sound tables: as a statement to read, and as a test that computes. Paper: 01, "Tables and words".
+-- proofs/SoundTest.antt shows that the two agree.
 --
 --   TaskWord P w, PromiseWord T B w   w is a word of the task table, of the promise table
 --   SoundView T P B s, Sound B s      the tables are sound
 --   Hop, hop T s v                    from task v, one of T, to the owner of what it awaits
 --   comes n T s v                     following owners from v comes to a ready task in fewer than n hops
+--   comesInTime s v                   the same in fewer hops than there are tasks
 --   taskPasses s v, promisePasses B s q, soundTest B s   the test
 -- Assumes nothing.
 use mathlib.Core.Path.{_≡_}
@@ -11,7 +13,8 @@ use mathlib.Core.Bool.{Bool, true, false, cond, _&&_, _||_}
 use Prim.Native.Nat.{ℕ, zero, suc, _-_, _<_}
 use lib.Dec.{eqb, leb, ltb}
 use lib.ListN.{length}
-use Rattle.words.specs.Words.{unusedWord, readyWord, endedWord, firstWait, waitsOn, unmadeWord, setWord, firstOwned, ownedBy, blamedOn}
+use Rattle.words.specs.Words.{unusedWord, readyWord, endedWord, firstWait, waitsOn, unmadeWord, setWord, firstOwned}
+use Rattle.words.specs.Words.{ownedBy, blamedOn}
 use Rattle.words.specs.Lists.{allBelow}
 use Rattle.rules.specs.Tables.{Tables, taskAt, promiseAt, live, Live, waiting}
 use Rattle.rules.specs.Chains.{View, view, awaitedBy, graph, Comes}
@@ -31,8 +34,8 @@ pub data PromiseWord (T B w : ℕ) : Type 0 where
   owned : (t : ℕ) → t < T → w ≡ ownedBy t → PromiseWord T B w
   blamed : (t : ℕ) → t < T → w ≡ blamedOn B t → PromiseWord T B w
 
--- "Tables are sound when: every word is one of these, with p below P and t below T; every owner is live; every awaited promise is owned; every blamed
--- task is ended; and every waiting task's chain comes to a ready task."
+-- "Tables are sound when: every word is one of these, with p below P and t below T; every owner is live; every awaited
+-- promise is owned; every blamed task is ended; and every waiting task's chain comes to a ready task."
 pub record SoundView (T P B : ℕ) (s : View) : Type 0 where
   pub taskWord : (v : ℕ) → TaskWord P (s .task v)
   pub promiseWord : (q : ℕ) → PromiseWord T B (s .promise q)
@@ -70,11 +73,17 @@ unfoldable pub comes : ℕ → ℕ → View → ℕ → Bool
 comes zero T s v = false
 comes (suc n) T s v = comesBy (hop T s v) (λ u. comes n T s u)
 
+-- a sound chain has fewer links than there are tasks
+abbrev pub comesInTime : Tables → ℕ → Bool
+comesInTime s v = comes (length (s .tasks)) (length (s .tasks)) (view s) v
+
 -- a task's word is one of these, and its chain, if it waits, comes to a ready task
 unfoldable pub taskPasses : Tables → ℕ → Bool
 taskPasses s v =
-    eqb (taskAt s v) unusedWord || eqb (taskAt s v) readyWord || eqb (taskAt s v) endedWord
-    || (waiting (taskAt s v) && ltb (awaitedBy (view s) v) (length (s .promises)) && comes (length (s .tasks)) (length (s .tasks)) (view s) v)
+    eqb (taskAt s v) unusedWord
+    || eqb (taskAt s v) readyWord
+    || eqb (taskAt s v) endedWord
+    || (waiting (taskAt s v) && ltb (awaitedBy (view s) v) (length (s .promises)) && comesInTime s v)
 
 -- a promise's word is one of these; its owner is live, and who is blamed is ended
 abbrev pub promiseWordPasses : ℕ → Tables → ℕ → Bool

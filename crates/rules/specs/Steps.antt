@@ -1,8 +1,11 @@
--- The five steps: what each answers, the tables after it, and the report words. Paper: 01, "The five steps"; 02, 3/13 and 4/13.
+-- The five steps: what each answers, the tables after it, and the report words. Paper: 01, "The five steps"; 02, 3/13
+-- and 4/13.
 --
 --   Step                    a step with its numbers
 --   Outcome                 the answer, the tables after it, and the words that the report then begins with
 --   withMade .. withEnded   the tables after an accepted step
+--   waitersOn s p           who waits on p: what a set reports
+--   omittedBy s t, waitersFor s t   what t owns, and who waits on one of these: what its end reports
 --   walk, Found             following owners, on behalf of a get
 --   pairs k s t p           the pairs of a ring
 --   rows F s x              the refusals from 3 on, of each step
@@ -26,7 +29,8 @@ use Rattle.rules.specs.Tables.{Tables, withTasks, withPromises, withWord
 use Rattle.rules.specs.Chains.{View, view, awaitedBy, ownerOf}
 use Rattle.rules.specs.Sound.{Hop, ready, lost, to, hop}
 use Rattle.rules.specs.Answers.{byNumber, refusedWith, refusedAtWith}
-use Rattle.rules.specs.Refusals.{Row, first, boundsRows, tableRows, actorRows, childRows, newRows, getRows, ownRows, entryRefusal, firstBad}
+use Rattle.rules.specs.Refusals.{Row, first, boundsRows, tableRows, actorRows, childRows, newRows, getRows}
+use Rattle.rules.specs.Refusals.{ownRows, entryRefusal, firstBad}
 use Rattle.rules.specs.declared.Answer.{Answer}
 use Rattle.rules.specs.declared.Answer.the-variants.{Made, Set, Value, Blamed, Waits, Cycle, Started, Ended}
 
@@ -78,14 +82,30 @@ withStarted s c list = withWords s (set (s .tasks) c readyWord) (given (ownedBy 
 unfoldable pub awaits : List ℕ → ℕ → ℕ → Bool
 awaits ps v w = waiting w && eqb (getD ps (w - firstWait) 0) v
 
--- "t becomes ended. Each promise it owns becomes blamed on t, awaited or not (an omitted set). Each task that waits on one of these becomes ready."
+-- "t becomes ended. Each promise it owns becomes blamed on t, awaited or not (an omitted set). Each task that waits on
+-- one of these becomes ready."
 abbrev pub withEnded : ℕ → Tables → ℕ → Tables
 withEnded B s t =
-    withWords s (set (replaced (awaits (s .promises) (ownedBy t)) readyWord (s .tasks)) t endedWord) (replaced (is (ownedBy t)) (blamedOn B t) (s .promises))
+    withWords s
+    (set (replaced (awaits (s .promises) (ownedBy t)) readyWord (s .tasks)) t endedWord)
+    (replaced (is (ownedBy t)) (blamedOn B t) (s .promises))
+
+-- ---- whom a set and an end report
+
+-- "every task that waits on p"
+abbrev pub waitersOn : Tables → ℕ → List ℕ
+waitersOn s p = places (is (waitsOn p)) 0 (s .tasks)
+
+-- "Each promise it owns", "Each task that waits on one of these"
+abbrev pub omittedBy : Tables → ℕ → List ℕ
+omittedBy s t = places (is (ownedBy t)) 0 (s .promises)
+
+abbrev pub waitersFor : Tables → ℕ → List ℕ
+waitersFor s t = places (awaits (s .promises) (ownedBy t)) 0 (s .tasks)
 
 -- ---- following owners
 
--- back to the asker, or to another ready task, with the number of owners reached. In damaged tables the way may be lost.
+-- back to the asker, or to another ready task, with the number of owners reached; in damaged tables the way may be lost
 pub data Found : Type 0 where
   astray : Found
   back free : ℕ → Found
@@ -96,9 +116,11 @@ walkBy false ready k on = free k
 walkBy false lost k on = astray
 walkBy false (to u) k on = on u
 
--- "follow owners from p: t1 owns p, t2 owns what t1 awaits, and so on, until t or a ready task": from u, the k-th owner reached, at most n of them. 000,
--- Algorithm 2, lines 5 to 13: the loop ends at the asker (line 7) or at a task that awaits nothing (line 10), and else goes on to the owner of what u awaits (lines 12
--- and 13). Line 8, no owner: for p itself `got` has answered, and nobody awaits such a promise in sound tables. Line 11 has nothing to catch: a step is one undivided action.
+-- "follow owners from p: t1 owns p, t2 owns what t1 awaits, and so on, until t or a ready task": from u, the k-th owner
+-- reached, at most n of them. 000, Algorithm 2, lines 5 to 13: the loop ends at the asker (line 7) or at a task that
+-- awaits nothing (line 10), and else goes on to the owner of what u awaits (lines 12 and 13). Line 8, no owner: for p
+-- itself `got` has answered, and nobody awaits such a promise in sound tables. Line 11 has nothing to catch: a step is
+-- one undivided action.
 unfoldable pub walk : ℕ → ℕ → View → ℕ → ℕ → ℕ → Found
 walk zero T s t u k = astray
 walk (suc n) T s t u k = walkBy (eqb u t) (hop T s u) k (λ x. walk n T s t x (suc k))
@@ -108,9 +130,10 @@ unfoldable pub pairs : ℕ → View → ℕ → ℕ → List ℕ
 pairs zero s t p = []
 pairs (suc k) s t p = t ∷ p ∷ pairs k s (ownerOf s p) (awaitedBy s (ownerOf s p))
 
--- "If t is reached, answer cycle k, the owners reached, t included. The tables stay unchanged and t stays ready. If a ready task other than t is reached,
--- t now waits on p; answer waits k, the owners reached." Sound tables lead nobody astray; without the test of them such a wait is entered.
--- 000, Algorithm 2: where the assert of line 15 fails, the mark of line 3 is cleared (line 18), so here it is never written; where it holds, t blocks (line 16), marked.
+-- "If t is reached, answer cycle k, the owners reached, t included. The tables stay unchanged and t stays ready. If a
+-- ready task other than t is reached, t now waits on p; answer waits k, the owners reached." Sound tables lead nobody
+-- astray; without the test of them such a wait is entered. 000, Algorithm 2: where the assert of line 15 fails, the
+-- mark of line 3 is cleared (line 18), so here it is never written; where it holds, t blocks (line 16), marked.
 unfoldable pub followed : Tables → ℕ → ℕ → Found → Outcome
 followed s t p (back k) = outcome (Cycle k) s (pairs k (view s) t p)
 followed s t p (free k) = outcome (Waits k) (withWait s t p) []
@@ -132,17 +155,22 @@ got B s t p w =
 
 -- ---- the steps
 
--- "Each refusal returns its number (and place) and writes to no table and no report." a is the answer that returns a number.
+-- "Each refusal returns its number (and place) and writes to no table and no report." a is the answer that returns a
+-- number.
 unfoldable pub guarded : (ℕ → Answer) → ℕ → Tables → Outcome → Outcome
 guarded a r s o = cond (eqb r 0) o (outcome (a r) s [])
 
--- the answer that refuses an async for entry i of its list: "17 with the blamed task (and for async the place before it)"
+-- the answer that refuses an async for entry i of its list: "17 with the blamed task (and for async the place before
+-- it)"
 abbrev pub entryRefused : ℕ → Tables → ℕ → List ℕ → ℕ → Answer
 entryRefused B s t list i = refusedAtWith (blamedTask B s (getD list i 0)) i (entryRefusal B (s .promises) t list i)
 
 -- async, where i is the first bad place of the list. "Async moves all or nothing."
 unfoldable pub started : ℕ → Tables → ℕ → ℕ → List ℕ → ℕ → Outcome
-started B s t c list i = cond (ltb i (length list)) (outcome (entryRefused B s t list i) s []) (outcome Started (withStarted s c list) [])
+started B s t c list i =
+    cond (ltb i (length list))
+    (outcome (entryRefused B s t list i) s [])
+    (outcome Started (withStarted s c list) [])
 
 -- the refusals of each step, after 1 and 2 and before those of a list entry
 abbrev pub rows : Form → Tables → Step → List Row
@@ -163,12 +191,13 @@ stepRefused F s (step-end t) r = byNumber r
 -- what a step answers, does and reports
 abbrev pub effect : Form → Tables → Step → Outcome
 effect F s (step-new t p) = outcome Made (withMade s t p) []
-effect F s (step-set t p) = outcome (Set (length (places (is (waitsOn p)) 0 (s .tasks)))) (withSet s p) (places (is (waitsOn p)) 0 (s .tasks))
+effect F s (step-set t p) = outcome (Set (length (waitersOn s p))) (withSet s p) (waitersOn s p)
 effect F s (step-get t p) = got (F .base) s t p (promiseAt s p)
-effect F s (step-async t c list) = started (F .base) s t c list (firstBad (entryRefusal (F .base) (s .promises) t list) (length list) 0)
+effect F s (step-async t c list) =
+    started (F .base) s t c list (firstBad (entryRefusal (F .base) (s .promises) t list) (length list) 0)
 effect F s (step-end t) =
-    outcome (Ended (length (places (is (ownedBy t)) 0 (s .promises))) (length (places (awaits (s .promises) (ownedBy t)) 0 (s .tasks)))) (withEnded (F .base) s t)
-    (places (is (ownedBy t)) 0 (s .promises) ++ places (awaits (s .promises) (ownedBy t)) 0 (s .tasks))
+    outcome (Ended (length (omittedBy s t)) (length (waitersFor s t))) (withEnded (F .base) s t)
+    (omittedBy s t ++ waitersFor s t)
 
 -- the rules without refusals 1 and 2
 abbrev pub raw : Form → Tables → Step → Outcome

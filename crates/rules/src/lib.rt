@@ -1,8 +1,9 @@
 // The answers. What each step answers, and when, stands in specs/; what is promised of it, in proofs/Promises.antt.
 
-// An answer; the counts and numbers that belong to it are in its cases, the lists are in the report. `Opened` is the answer to a line that opens a session, all
-// others are given by the steps. The place of a refusal is where it lies: in the list of an async, or, with refusal 14, the column in a bad line. The last two cases
-// are refusal 17, which tells the blamed task.
+// An answer; the counts and numbers that belong to it are in its cases, the lists are in the report. `Opened` is the
+// answer to a line that opens a session, all others are given by the steps. The place of a refusal is where it lies: in
+// the list of an async, or, with refusal 14, the column in a bad line. The last two cases are refusal 17, which tells
+// the blamed task.
 pub enum Answer {
     Opened,
     Made,

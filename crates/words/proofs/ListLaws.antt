@@ -10,10 +10,13 @@ use native.Mathlib.Numerals.{add-one}
 use native.Mathlib.Nat.{zero-add, add-zero, add-suc, suc-add, eq-or-lt-of-le, le-of-suc-le-suc}
 use lib.Dec.{eqb}
 use borrow.Author.Tests.{eq-eqb, ne-eqb, eqb-true}
-use lib.ListN.{length, getD, set, drop, length-map, List·getD-map, List·getD-eq-default, drop-of-length-le, length-append, length-drop}
+use lib.ListN.{length, getD, set, drop, length-map, List·getD-map, List·getD-eq-default, drop-of-length-le}
+use lib.ListN.{length-append, length-drop}
 use lib.Seq.{drop-cons, sets, sets-eq, getD-set-other}
-use Rattle.words.specs.Lists.{allBelow, is, places, changed, replaced, count, over, In, top, pop, Rising, none, one, more}
-use Rattle.words.proofs.BoolLaws.{and-yes, and-split, and-false, or-split, cond-true, cond-false, true-is-not-false}
+use Rattle.words.specs.Lists.{allBelow, is, places, changed, replaced, count, over, In, top, pop, Rising, none}
+use Rattle.words.specs.Lists.{one, more}
+use Rattle.words.proofs.BoolLaws.{and-yes, and-split, and-false, or-split, cond-true, cond-false}
+use Rattle.words.proofs.BoolLaws.{true-is-not-false}
 
 -- ---- allBelow
 
@@ -45,7 +48,8 @@ pub allBelow-fails : (f : ℕ → Bool) (i n : ℕ) → i < n → f i ≡ false 
 unfolding allBelow
 allBelow-fails f i zero h p = absurd (omega arith)
 allBelow-fails f i (suc n) h p =
-    ⊎-elim (λ (q : i ≡ n). rw (← q, p) (and-false (allBelow i f))) (λ (q : i < n). rw (allBelow-fails f i n q p)) (eq-or-lt-of-le (le-of-suc-le-suc h))
+    ⊎-elim (λ (q : i ≡ n). rw (← q, p) (and-false (allBelow i f))) (λ (q : i < n). rw (allBelow-fails f i n q p))
+    (eq-or-lt-of-le (le-of-suc-le-suc h))
 
 -- ---- is, changed, replaced
 
@@ -73,10 +77,12 @@ changed-miss f x w e = cond-false (f w) x w e
 pub getD-map : (f : ℕ → ℕ) (l : List ℕ) (n : ℕ) → f 0 ≡ 0 → getD (map f l) n 0 ≡ f (getD l n 0)
 getD-map f l n z = subst (λ (d : ℕ). getD (map f l) n d ≡ f (getD l n 0)) z (List·getD-map f l n 0)
 
-pub replaced-hit : (f : ℕ → Bool) (x : ℕ) (l : List ℕ) (n : ℕ) → f 0 ≡ false → f (getD l n 0) ≡ true → getD (replaced f x l) n 0 ≡ x
+pub replaced-hit : (f : ℕ → Bool) (x : ℕ) (l : List ℕ) (n : ℕ) → f 0 ≡ false → f (getD l n 0) ≡ true
+    → getD (replaced f x l) n 0 ≡ x
 replaced-hit f x l n z e = getD-map (changed f x) l n (changed-miss f x 0 z) ∙ changed-hit f x (getD l n 0) e
 
-pub replaced-miss : (f : ℕ → Bool) (x : ℕ) (l : List ℕ) (n : ℕ) → f 0 ≡ false → f (getD l n 0) ≡ false → getD (replaced f x l) n 0 ≡ getD l n 0
+pub replaced-miss : (f : ℕ → Bool) (x : ℕ) (l : List ℕ) (n : ℕ) → f 0 ≡ false → f (getD l n 0) ≡ false
+    → getD (replaced f x l) n 0 ≡ getD l n 0
 replaced-miss f x l n z e = getD-map (changed f x) l n (changed-miss f x 0 z) ∙ changed-miss f x (getD l n 0) e
 
 pub length-replaced : (f : ℕ → Bool) (x : ℕ) (l : List ℕ) → length (replaced f x l) ≡ length l
@@ -124,7 +130,8 @@ mapped-length f (suc i) (x ∷ xs) = ap suc (mapped-length f i xs)
 
 -- one word of the rest that is still to be read
 pub places-step : (f : ℕ → Bool) (ws : List ℕ) (i : ℕ) → i < length ws
-    → places f i (drop i ws) ≡ cond (f (getD ws i 0)) (i ∷ places f (i + 1) (drop (i + 1) ws)) (places f (i + 1) (drop (i + 1) ws))
+    → places f i (drop i ws)
+    ≡ cond (f (getD ws i 0)) (i ∷ places f (i + 1) (drop (i + 1) ws)) (places f (i + 1) (drop (i + 1) ws))
 unfolding places
 places-step f ws i h = rw (add-one, drop-cons ws i 0 h)
 
@@ -174,7 +181,9 @@ isIn (y ∷ ys) x = eqb x y || isIn ys x
 
 pub isIn-true : (ys : List ℕ) (x : ℕ) → isIn ys x ≡ true → In x ys
 isIn-true [] x e = true-is-not-false (sym e)
-isIn-true (y ∷ ys) x e = ⊎-elim (λ (h : eqb x y ≡ true). subst (λ (z : ℕ). In x (z ∷ ys)) (eqb-true x y h) top) (λ h. pop (isIn-true ys x h)) (or-split (eqb x y) (isIn ys x) e)
+isIn-true (y ∷ ys) x e =
+    ⊎-elim (λ (h : eqb x y ≡ true). subst (λ (z : ℕ). In x (z ∷ ys)) (eqb-true x y h) top) (λ h. pop (isIn-true ys x h))
+    (or-split (eqb x y) (isIn ys x) e)
 
 -- ---- the places are exactly those of the words that pass, rising
 
@@ -192,12 +201,20 @@ at-head f i w ws x z e =
 at-tail : (f : ℕ → Bool) (i w : ℕ) (ws : List ℕ) (x : ℕ) → At f (suc i) ws x → At f i (w ∷ ws) x
 at-tail f i w ws x a =
     let k : x - i ≡ suc (x - suc i) = omega (arith, a .from) in
-    record { from = omega (arith, a .from); within = omega (arith, a .within); passes = ap (λ (j : ℕ). f (getD (w ∷ ws) j 0)) k ∙ a .passes }
+    record {
+      from = omega (arith, a .from);
+      within = omega (arith, a .within);
+      passes = ap (λ (j : ℕ). f (getD (w ∷ ws) j 0)) k ∙ a .passes;
+    }
 
 at-later : (f : ℕ → Bool) (i w : ℕ) (ws : List ℕ) (x : ℕ) → x ≢ i → At f i (w ∷ ws) x → At f (suc i) ws x
 at-later f i w ws x n a =
     let k : x - i ≡ suc (x - suc i) = omega (arith, a .from) in
-    record { from = omega (arith, a .from); within = omega (arith, a .within); passes = sym (ap (λ (j : ℕ). f (getD (w ∷ ws) j 0)) k) ∙ a .passes }
+    record {
+      from = omega (arith, a .from);
+      within = omega (arith, a .within);
+      passes = sym (ap (λ (j : ℕ). f (getD (w ∷ ws) j 0)) k) ∙ a .passes;
+    }
 
 at-now : (f : ℕ → Bool) (i w : ℕ) (ws : List ℕ) (x : ℕ) → x ≡ i → At f i (w ∷ ws) x → f w ≡ true
 at-now f i w ws x z a =
@@ -209,7 +226,8 @@ unfolding places
 places-at f i [] x h = absurd (in-nil x h)
 places-at f i (w ∷ ws) x h = go (f w) refl h (places-at f (suc i) ws x)
   where
-    go : (b : Bool) → f w ≡ b → In x (cond b (i ∷ places f (suc i) ws) (places f (suc i) ws)) → (In x (places f (suc i) ws) → At f (suc i) ws x) → At f i (w ∷ ws) x
+    go : (b : Bool) → f w ≡ b → In x (cond b (i ∷ places f (suc i) ws) (places f (suc i) ws))
+        → (In x (places f (suc i) ws) → At f (suc i) ws x) → At f i (w ∷ ws) x
     go true e k rec = ⊎-elim (λ (z : x ≡ i). at-head f i w ws x z e) (λ m. at-tail f i w ws x (rec m)) (in-cons k)
     go false e k rec = at-tail f i w ws x (rec k)
 
@@ -218,7 +236,8 @@ unfolding places
 at-places f i [] x a = absurd (omega (arith, a .from, a .within))
 at-places f i (w ∷ ws) x a = go (f w) refl (ℕ-discrete x i) (at-places f (suc i) ws x)
   where
-    go : (b : Bool) → f w ≡ b → Dec (x ≡ i) → (At f (suc i) ws x → In x (places f (suc i) ws)) → In x (cond b (i ∷ places f (suc i) ws) (places f (suc i) ws))
+    go : (b : Bool) → f w ≡ b → Dec (x ≡ i) → (At f (suc i) ws x → In x (places f (suc i) ws))
+        → In x (cond b (i ∷ places f (suc i) ws) (places f (suc i) ws))
     go true e (yes z) rec = subst (λ (y : ℕ). In y (i ∷ places f (suc i) ws)) (sym z) top
     go true e (no n) rec = pop (rec (at-later f i w ws x n a))
     go false e (yes z) rec = absurd (true-is-not-false (sym (at-now f i w ws x z a) ∙ e))
@@ -250,7 +269,8 @@ count-le f (w ∷ ws) = go (f w) (count-le f ws)
     go false h = omega arith
 
 -- a word that passes, put to one that does not, is one fewer
-pub count-set : (f : ℕ → Bool) (x : ℕ) → f 0 ≡ false → f x ≡ false → (ws : List ℕ) (i : ℕ) → f (getD ws i 0) ≡ true → count f ws ≡ suc (count f (set ws i x))
+pub count-set : (f : ℕ → Bool) (x : ℕ) → f 0 ≡ false → f x ≡ false → (ws : List ℕ) (i : ℕ) → f (getD ws i 0) ≡ true
+    → count f ws ≡ suc (count f (set ws i x))
 unfolding count
 count-set f x f0 fx [] i h = absurd (true-is-not-false (sym h ∙ f0))
 count-set f x f0 fx (w ∷ ws) zero h =
@@ -274,8 +294,10 @@ pub data NoDup : List ℕ → Type 0 where
   no-more : NoDup []
   another : {x : ℕ} {l : List ℕ} → (In x l → ⊥) → NoDup l → NoDup (x ∷ l)
 
--- The pigeonhole bound: different places of a table whose words pass a test are at most as many as the table's words that pass it.
-pub pigeon : (f : ℕ → Bool) → f 0 ≡ false → (l ws : List ℕ) → NoDup l → ((x : ℕ) → In x l → f (getD ws x 0) ≡ true) → length l ≤ count f ws
+-- The pigeonhole bound: different places of a table whose words pass a test are at most as many as the table's words
+-- that pass it.
+pub pigeon : (f : ℕ → Bool) → f 0 ≡ false → (l ws : List ℕ) → NoDup l → ((x : ℕ) → In x l → f (getD ws x 0) ≡ true)
+    → length l ≤ count f ws
 pigeon f f0 l ws no-more h = omega arith
 pigeon f f0 l ws (another {x = x} {l = r} out n) h =
     let c = count-set f 0 f0 f0 ws x (h x top) in

@@ -1,4 +1,5 @@
--- What a loop through a table holds after i turns, over any test and any change of a word: a law for the start, a turn and the end. Assumes nothing.
+-- What a loop through a table holds after i turns, over any test and any change of a word: a law for the start, a turn
+-- and the end. Assumes nothing.
 use Prim.Native.Nat.{ℕ, _+_, _-_, _≤_, _<_}
 use mathlib.Core.Path.{_≡_, refl, ap, _∙_}
 use mathlib.Core.List.{List, [], _∷_, map}
@@ -8,7 +9,8 @@ use native.Mathlib.Numerals.{add-one}
 use lib.ListN.{length, getD, set, drop, replicate, length-set}
 use lib.Seq.{sets}
 use Rattle.words.specs.Lists.{places}
-use Rattle.words.proofs.ListLaws.{mapped, mapped-none, mapped-more, mapped-get, mapped-all, places-step, places-end}
+use Rattle.words.proofs.ListLaws.{mapped, mapped-none, mapped-more, mapped-get, mapped-all, places-step}
+use Rattle.words.proofs.ListLaws.{places-end}
 
 -- ---- a loop that rewrites each word by g
 
@@ -21,7 +23,8 @@ module _ (g : ℕ → ℕ) where
   pub rewritten-start : (ws : List ℕ) → Rewritten g ws ws 0
   rewritten-start ws = record { within = omega arith; same = refl; table = mapped-none g ws }
 
-  pub rewritten-turn : {before now : List ℕ} {i x : ℕ} → Rewritten g before now i → i < length before → x ≡ g (getD now i 0) → Rewritten g before (set now i x) (i + 1)
+  pub rewritten-turn : {before now : List ℕ} {i x : ℕ} → Rewritten g before now i → i < length before
+      → x ≡ g (getD now i 0) → Rewritten g before (set now i x) (i + 1)
   rewritten-turn {before} {now} {i} {x} r h e = record {
     within = omega arith;
     same = length-set now i x ∙ r .same;
@@ -53,9 +56,12 @@ pub record Collected (f : ℕ → Bool) (ws before : List ℕ) (from : ℕ) (now
 
 module _ (f : ℕ → Bool) where
   pub collected-start : (ws before : List ℕ) (from : ℕ) → Collected f ws before from before 0 from
-  collected-start ws before from = record { within = omega arith; least = omega arith; most = omega arith; same = refl; counted = refl; written = refl }
+  collected-start ws before from =
+      record
+      { within = omega arith; least = omega arith; most = omega arith; same = refl; counted = refl; written = refl }
 
-  pub collected-hit : {ws before now : List ℕ} {from i n : ℕ} → Collected f ws before from now i n → i < length ws → f (getD ws i 0) ≡ true → Collected f ws before from (set now n i) (i + 1) (n + 1)
+  pub collected-hit : {ws before now : List ℕ} {from i n : ℕ} → Collected f ws before from now i n → i < length ws
+      → f (getD ws i 0) ≡ true → Collected f ws before from (set now n i) (i + 1) (n + 1)
   collected-hit {ws} {before} {now} {from} {i} {n} c h e =
       let s = places-step f ws i h in
       record {
@@ -67,10 +73,18 @@ module _ (f : ℕ → Bool) where
         written = rw (c .written, s, e, add-one n);
       }
 
-  pub collected-miss : {ws before now : List ℕ} {from i n : ℕ} → Collected f ws before from now i n → i < length ws → f (getD ws i 0) ≡ false → Collected f ws before from now (i + 1) n
+  pub collected-miss : {ws before now : List ℕ} {from i n : ℕ} → Collected f ws before from now i n → i < length ws
+      → f (getD ws i 0) ≡ false → Collected f ws before from now (i + 1) n
   collected-miss {ws} {before} {now} {from} {i} {n} c h e =
       let s = places-step f ws i h in
-      record { within = omega arith; least = c .least; most = omega (arith, c .most); same = c .same; counted = rw (c .counted, s, e); written = rw (c .written, s, e) }
+      record {
+        within = omega arith;
+        least = c .least;
+        most = omega (arith, c .most);
+        same = c .same;
+        counted = rw (c .counted, s, e);
+        written = rw (c .written, s, e);
+      }
 
   pub collected-end : {ws before now : List ℕ} {from i n : ℕ} → Collected f ws before from now i n → length ws ≤ i
       → (n ≡ from + length (places f 0 ws)) × (now ≡ sets before from (places f 0 ws))

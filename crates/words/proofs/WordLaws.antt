@@ -22,4 +22,6 @@ sizesInBounds-true F T P e =
 
 pub sizesInBounds-of : (F : Form) (T P : ℕ) → Sizes F T P → sizesInBounds F T P ≡ true
 unfolding sizesInBounds
-sizesInBounds-of F T P b = and-yes _ _ (and-yes _ _ (le-leb 1 T (b .some)) (le-leb T (F .mostTasks) (b .tasks))) (le-leb P (F .mostPromises) (b .promises))
+sizesInBounds-of F T P b =
+    and-yes _ _ (and-yes _ _ (le-leb 1 T (b .some)) (le-leb T (F .mostTasks) (b .tasks)))
+    (le-leb P (F .mostPromises) (b .promises))

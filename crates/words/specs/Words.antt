@@ -3,12 +3,13 @@
 --   unusedWord, readyWord, endedWord, waitsOn p    the words of the task table
 --   unmadeWord, setWord, ownedBy t, blamedOn B t   the words of the promise table; B is where the blamed words begin
 --   firstWait, firstOwned                          the word that waits on promise 0, the word owned by task 0
---   Form, small                                    where the blamed words begin, and the limits of a session and its lines
+--   Form, small                                    where the blamed words begin, and the limits of a session
 --   sizesInBounds F T P                            T and P are within their bounds
 --   roomFor T P                                    the words of a report that has room for every answer
 --   mostRecords                                    the most steps of a batch
 --   lastLine                                       the largest number of a line
---   ofLines                                        the form that lines use; longestLine, longestAnswer, lineReport and mostEntries are its
+--   ofLines                                        the form that lines use
+--   longestLine, longestAnswer, lineReport, mostEntries   its limits
 -- Assumes nothing.
 use Prim.Native.Nat.{ℕ, _+_, _*_, _/_}
 use mathlib.Core.Bool.{Bool, _&&_}

@@ -1,8 +1,10 @@
-// The words of the two tables and the limits of a session, as constants of the kind of word that they belong to, and constructors of words.
+// The words of the two tables and the limits of a session, as constants of the kind of word that they belong to, and
+// constructors of words.
 ghost use mathlib.Core.Bool.{true};
 ghost use mathlib.Core.Path.{_≡_};
 ghost use Prim.Native.Nat.{_+_, _<_};
-ghost use Rattle.words.specs.Words.{unusedWord, readyWord, endedWord, waitsOn, unmadeWord, setWord, ownedBy, blamedOn, small, sizesInBounds, roomFor};
+ghost use Rattle.words.specs.Words.{unusedWord, readyWord, endedWord, waitsOn, unmadeWord, setWord, ownedBy};
+ghost use Rattle.words.specs.Words.{blamedOn, small, sizesInBounds, roomFor};
 
 // A word of the task table.
 pub struct TaskWord {
