@@ -83,7 +83,7 @@ module _ (F : Form) (apart : Apart F) (n : ℕ) (s : Tables) (g : Good F s) (roo
         length-set (woken (F .base) s e) e endedWord
         ∙ length-replaced (awaits (s .promises) (ownedBy e)) readyWord (s .tasks)
 
-    -- its end frees nobody but who waits for it
+    -- its end leaves each link that does not lead to it, and makes ready who waited for it
     module _ (l : List ℕ) (c : Chain (waits s) v (l ++ e ∷ [])) where
       abbrev after : Graph
       after = graph (length (s .tasks)) (view ended)
@@ -99,7 +99,7 @@ module _ (F : Form) (apart : Apart F) (n : ℕ) (s : Tables) (g : Good F s) (roo
           end-wakes (length (s .tasks)) (length (s .promises)) (F .base) s e (last-below l c) (last-ready l c)
           (last-below l c)
 
-    -- it takes that task off
+    -- so it takes that task off the chain
     drain-one : (l : List ℕ) → Chain (waits s) v (l ++ e ∷ []) → Chain (waits (step F n s (step-end e) .after)) v l
     drain-one l c =
         rw (after-end l c)

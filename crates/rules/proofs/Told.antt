@@ -111,6 +111,7 @@ module _ (F : Form) (n : ℕ) (s : Tables) where
       go (inl c) = accepted-read x c
       go (inr w) = refused-read x (how-refused F n s x w) refl (refusal-passes (λ r. ltb r 100) refl F n s x w)
 
+-- two answers to one step with the same four words are read back alike
 pub words-tell : (F : Form) (x : Step) (n n′ : ℕ) (s s′ : Tables)
     → SameWords (step F n s x .answer) (step F n′ s′ x .answer) → step F n s x .answer ≡ step F n′ s′ x .answer
 words-tell F x n n′ s s′ e = sym (step-read F n s x) ∙ rw (e .number, e .first, e .second) (step-read F n′ s′ x)

@@ -170,7 +170,8 @@ pub record Woken (s : Tables) (p n : ℕ) (o : Outcome) : Type 0 where
 
 -- ---- demand 3
 
--- the ends of the tasks of a chain, farthest first; that of u is lent a report of n u words
+-- the ends of the tasks of a chain, farthest first; that of u is lent a report of n u words. No task is on a chain
+-- twice, so that n gives each end a length of its own
 abbrev pub ends : (ℕ → ℕ) → List ℕ → List LentStep
 ends n [] = []
 ends n (u ∷ l) = ends n l ++ (n u, step-end u) ∷ []
