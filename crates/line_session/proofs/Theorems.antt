@@ -4,12 +4,12 @@ use mathlib.Core.Path.{_≡_, refl, ap, sym, _∙_}
 use mathlib.Core.List.{List, []}
 use mathlib.Core.Bool.{Bool, true, false, cond, not}
 use native.Mathlib.Omega.{arith}
-use lib.Dec.{eqb}
-use borrow.Author.Tests.{eq-eqb}
+use lib.Dec.{eqb, ltb}
+use borrow.Author.Tests.{eq-eqb, lt-ltb}
 use Rattle.words.specs.Words.{ofLines}
 use Rattle.words.proofs.BoolLaws.{true-is-not-false}
 use Rattle.rules.specs.Tables.{Tables, partOf, putBack}
-use Rattle.rules.specs.Answers.{laid, numberOf}
+use Rattle.rules.specs.Answers.{laid, numberOf, valuesOf, refusalOf, answerOf}
 use Rattle.rules.specs.Refusals.{freshRefusal}
 use Rattle.rules.specs.Steps.{Step, Outcome, outcome, step}
 use Rattle.rules.specs.Demands.{Refusal}
@@ -17,6 +17,7 @@ use Rattle.rules.specs.declared.Answer.{Answer}
 use Rattle.rules.specs.declared.Answer.the-variants.{Opened, Refused}
 use Rattle.rules.proofs.BoundsLaws.{putBack-same}
 use Rattle.rules.proofs.Order.{refusal-passes}
+use Rattle.rules.proofs.Told.{step-told}
 use Rattle.rules.proofs.Promises.{a-number-below-100-refuses, a-refusal-changes-nothing}
 use Rattle.steps.specs.Named.{stepBy}
 use Rattle.text_forms.specs.declared.LineForm.{LineForm}
@@ -116,6 +117,29 @@ only-a-bad-line-gets-14 (F.Open T′ P′) vs (Open T P) s n e = absurd (omega a
 only-a-bad-line-gets-14 (F.Step k t p c) vs (Open T P) s n e =
     step-not-14 n (partOf T P s) (stepBy k t p vs) e
 only-a-bad-line-gets-14 (F.Bad c) vs (Open T P) s n e = (c, refl)
+
+-- ---- 01: "Where an answer is an enum, a definition gives this paper's number and values for each of its cases"
+
+-- WHATEVER A LINE DOES, ITS ANSWER'S NUMBER AND VALUES TELL THE ANSWER BACK, and it refuses exactly if the number is
+-- below 100
+pub a-line's-answer-is-told : (f : LineForm) (vs : List ℕ) (session : Session) (s : Tables) (n : ℕ)
+    → let a = deedOf f vs session s n .answer in
+    (answerOf (numberOf a) (valuesOf a) ≡ a) × (laid a .refuses ≡ ltb (numberOf a) 100)
+unfolding deedOf unopenedDeed openDeed openOutcome laid answerOf refusalOf
+a-line's-answer-is-told (F.Open T P) vs Unopened s n = go (eqb (freshRefusal ofLines T P) 0)
+  where
+    below : ltb (freshRefusal ofLines T P) 100 ≡ true
+    below = lt-ltb (freshRefusal ofLines T P) 100 (omega (arith, freshRefusal-most T P))
+
+    go : (b : Bool) → let a = openedBy T P s b .answer in
+        (answerOf (numberOf a) (valuesOf a) ≡ a) × (laid a .refuses ≡ ltb (numberOf a) 100)
+    go true = (refl, refl)
+    go false = rw below (refl, refl)
+a-line's-answer-is-told (F.Step k t p c) vs Unopened s n = (refl, refl)
+a-line's-answer-is-told (F.Bad c) vs Unopened s n = (refl, refl)
+a-line's-answer-is-told (F.Open T′ P′) vs (Open T P) s n = (refl, refl)
+a-line's-answer-is-told (F.Step k t p c) vs (Open T P) s n = step-told ofLines n (partOf T P s) (stepBy k t p vs)
+a-line's-answer-is-told (F.Bad c) vs (Open T P) s n = (refl, refl)
 
 -- 01, "How much each contract must say": any two outcomes that the contract of `act` allows coincide
 pub act-unique : {d : Deed} {rs : List ℕ} {p q : Done} {s s′ : Tables} {rs₁ rs₂ : List ℕ} → Does d rs p s rs₁
