@@ -1,1 +1,2 @@
 pub mod BenchLaws
+pub mod Theorems

@@ -1,55 +1,74 @@
-// The program: reads lines from standard input and prints one answer line each. Paper: 01, "Lines", the program `bench`.
-// It reads blocks and has each line's answer written straight after the answers that wait in the output array. These are put out where less than an answer
-// line's room is left and before every read, so that a partner on a pipe is never left waiting. What is decided about lines stands in the crate serving; what is
-// written to standard output is held to stdout, and not proved.
+// The program: reads lines from standard input and prints one answer line each. Paper: 01, "Lines", the program
+// `bench`. It reads blocks and has each line's answer written straight after the answers that wait in the output array.
+// These are put out where less than an answer line's room is left and after every block, before the next read, so that
+// a partner on a pipe is never left waiting. What is decided about lines stands in the crate line_serving; what becomes
+// of the bytes that are handed to write is held to stdout, and not proved.
 use line_session::Session;
 use words::Limit;
 ghost use mathlib.Core.Path.{_≡_};
 ghost use Prim.Native.Nat.{ℕ, _+_, _≤_, _<_};
-ghost use mathlib.Core.Bool.{true};
-ghost use lib.ListN.{length, drop};
-ghost use Rattle.words.specs.Words.{longestAnswer};
+ghost use mathlib.Core.List.{List};
+ghost use mathlib.Core.Bool.{true, false, not, _&&_};
+ghost use lib.Dec.{ltb};
+ghost use lib.ListN.{length, replicate};
+ghost use Rattle.words.specs.Words.{longestLine, longestAnswer, lineReport};
 ghost use Rattle.rules.specs.Tables.{tables as tablesOf};
 ghost use Rattle.line_session.specs.declared.Session.the-variants.{Unopened};
-ghost use Rattle.line_serving.specs.Serving.{turnOf};
-ghost use Rattle.line_serving.specs.Input.{Desk};
-ghost use Rattle.bench.specs.Carrying.{Carries, At, Fed, Ends};
+ghost use Rattle.line_serving.specs.Input.{Desk, feed, ended, zeroTables};
+ghost use Rattle.bench.specs.Carrying.{SameLine, PutOut, Waiting, At, Fed};
+ghost use Rattle.bench.specs.Running.{Reached, Runs, mostReads};
 
-// Where the program is: the place in the block, how many bytes of the line that has begun were counted, how many lines were answered, the session value, how many
-// bytes wait in the output array, and whether the program goes on.
+// Where the program is: the place in the block, how many bytes of the line that has begun were counted, how many lines
+// were answered, the session value, how many bytes wait in the output array, how many were handed to write before them,
+// whether more lines are taken, and whether the output took all that was handed to it.
 pub struct State {
     pub from: usize,
     pub have: usize,
     pub lines: u32,
     pub session: Session,
     pub used: usize,
+    pub put: u64,
     pub going: bool,
+    pub open: bool,
+}
+
+// Where the run is: how often it has read, and whether the input's end came.
+pub struct Ran {
+    pub state: State,
+    pub reads: u64,
+    pub ended: bool,
 }
 
 // Before the first line.
-fn start() -> State
-    ensures { λ r. ⌜ (r .used ≡ 0) × (r .have ≡ 0) × (r .lines ≡ 0) × (r .session ≡ Unopened) × (r .going ≡ true) ⌝ }
+fn start() -> Ran
+    ensures { λ r. ⌜ (r .state .have ≡ 0) × (r .state .lines ≡ 0) × (r .state .session ≡ Unopened)
+        × (r .state .used ≡ 0) × (r .state .put ≡ 0) × (r .state .going ≡ true) × (r .state .open ≡ true)
+        × (r .reads ≡ 0) × (r .ended ≡ false) ⌝ }
 {
-    State {
+    let state = State {
         from: 0,
         have: 0,
         lines: 0,
         session: Session::Unopened,
         used: 0,
+        put: 0,
         going: true,
+        open: true,
+    };
+    Ran {
+        state,
+        reads: 0,
+        ended: false,
     }
 }
 
-// Puts out the answers that wait. The program ends where the output is closed.
+// Puts out the answers that wait: this is the one place that writes.
 fn put_out(out: &[u8], s: State) -> State
     requires { ⌜ s .used ≤ length (now out) ⌝ }
-    ensures { λ r. ⌜ (r .from ≡ s .from) × (r .used ≡ 0) × (r .have ≡ s .have) × (r .lines ≡ s .lines) × (r .session ≡ s .session) × (r .going ≡ true → s .going ≡ true) ⌝ }
+    ensures { λ r. ⌜ PutOut s r ⌝ }
 {
     let used = s.used;
-    if used == 0 {
-        return s;
-    }
-    let open = io::write_all(1, &out[0..used]);
+    let taken = io::write_all(1, &out[0..used]);
     let session = s.session;
     State {
         from: s.from,
@@ -57,14 +76,18 @@ fn put_out(out: &[u8], s: State) -> State
         lines: s.lines,
         session,
         used: 0,
-        going: s.going & open,
+        put: std::num::wrapping_add_u64(s.put, used as u64),
+        going: s.going,
+        open: s.open & taken,
     }
 }
 
-// Sees that the output array has room for an answer line.
+// Sees that the output array has room for an answer line. What waited still waits, or was put out.
 fn with_room(out: &[u8], s: State) -> State
     requires { ⌜ (s .used ≤ length (now out)) × (length (now out) ≡ 32768) ⌝ }
-    ensures { λ r. ⌜ (r .from ≡ s .from) × (r .used + longestAnswer ≤ length (now (out .entry))) × (r .have ≡ s .have) × (r .lines ≡ s .lines) × (r .session ≡ s .session) × (0 < r .used → r .used ≡ s .used) ⌝ }
+    ensures { λ r. ⌜ (r .from ≡ s .from) × SameLine s r × (r .used + longestAnswer ≤ length (now (out .entry)))
+        × (r .open ≡ true → s .open ≡ true)
+        × ((said : List ℕ) → Waiting said s (now (out .entry)) → Waiting said r (now (out .entry))) ⌝ }
 {
     if out.len() - s.used < Limit::ANSWER {
         return put_out(out, s);
@@ -83,8 +106,13 @@ fn serve_line(
     was: State,
 ) -> State
     requires { ⌜ (was .from < length (now block)) × (was .used ≤ length (now out)) × (length (now out) ≡ 32768) ⌝ }
-    ensures { λ r. ⌜ (was .from < r .from) × (r .from ≤ length (now (block .entry))) × (r .used ≤ length (now (out .entry))) ⌝ }
-    ensures { λ r. ⌜ ((n : ℕ) × (n + longestAnswer ≤ length (now (out .entry))) × (0 < n → n ≡ was .used) × Carries (turnOf (now (block .entry)) (was .from) (now (line .entry)) (was .have) (was .lines) (was .session) (tablesOf (now (tasks .entry)) (now (promises .entry))) (now (report .entry)) (drop n (now (out .entry)))) n (now (out .entry)) r (now (line .exit)) (tablesOf (now (tasks .exit)) (now (promises .exit))) (now (report .exit)) (now (out .exit))) ⌝ }
+    ensures { λ r. ⌜ (was .from < r .from) × (r .from ≤ length (now (block .entry)))
+        × (r .used ≤ length (now (out .entry))) × (r .open ≡ true → was .open ≡ true) ⌝ }
+    ensures { λ r. ⌜ ((d : Desk) → was .going ≡ true
+        → At d was (now (line .entry)) (tablesOf (now (tasks .entry)) (now (promises .entry))) (now (report .entry))
+        (now (out .entry))
+        → Fed d (now (block .entry)) (was .from) r (now (line .exit))
+        (tablesOf (now (tasks .exit)) (now (promises .exit))) (now (report .exit)) (now (out .exit))) ⌝ }
 {
     let s = with_room(out, was);
     let used = s.used;
@@ -108,13 +136,15 @@ fn serve_line(
         lines: served.lines,
         session,
         used: used + served.bytes,
-        going: s.going & served.going,
+        put: s.put,
+        going: served.going,
+        open: s.open,
     }
 }
 
 // The same place in a new block: its start.
 fn at_start(s: State) -> State
-    ensures { λ r. ⌜ (r .from ≡ 0) × (r .used ≡ s .used) × (r .have ≡ s .have) × (r .lines ≡ s .lines) × (r .session ≡ s .session) × (r .going ≡ s .going) ⌝ }
+    ensures { λ r. ⌜ (r .from ≡ 0) × SameLine s r × (r .used ≡ s .used) × (r .put ≡ s .put) × (r .open ≡ s .open) ⌝ }
 {
     let session = s.session;
     State {
@@ -123,11 +153,14 @@ fn at_start(s: State) -> State
         lines: s.lines,
         session,
         used: s.used,
+        put: s.put,
         going: s.going,
+        open: s.open,
     }
 }
 
-// Every line of a block. Wherever the program was, it is after the block where the bytes taken one by one lead; where it goes on, it took all of them.
+// Every line of a block, while lines are taken and the output is open. Wherever the program was, it is after the block
+// where the bytes taken one by one lead.
 fn serve_block(
     block: &[u8],
     line: &mut [u8],
@@ -138,12 +171,16 @@ fn serve_block(
     was: State,
 ) -> State
     requires { ⌜ (was .used ≤ length (now out)) × (length (now out) ≡ 32768) ⌝ }
-    ensures { λ r. ⌜ (r .used ≤ length (now (out .entry))) × (r .from ≤ length (now (block .entry))) × (r .going ≡ true → r .from ≡ length (now (block .entry))) × (was .going ≡ true → 0 < length (now (block .entry)) → 0 < r .from) ⌝ }
-    ensures { λ r. ⌜ ((d : Desk) → At d was (now (line .entry)) (tablesOf (now (tasks .entry)) (now (promises .entry))) (now (report .entry)) (now (out .entry)) → Fed d (now (block .entry)) 0 r (now (line .exit)) (tablesOf (now (tasks .exit)) (now (promises .exit))) (now (report .exit)) (now (out .exit))) ⌝ }
+    ensures { λ r. ⌜ (r .used ≤ length (now (out .entry))) × (r .open ≡ true → was .open ≡ true) ⌝ }
+    ensures { λ r. ⌜ ((d : Desk) → r .open ≡ true
+        → At d was (now (line .entry)) (tablesOf (now (tasks .entry)) (now (promises .entry))) (now (report .entry))
+        (now (out .entry))
+        → At (feed d (now (block .entry))) r (now (line .exit))
+        (tablesOf (now (tasks .exit)) (now (promises .exit))) (now (report .exit)) (now (out .exit))) ⌝ }
 {
     let mut s = at_start(was);
     while s.from < block.len() {
-        if !s.going {
+        if !(s.going & s.open) {
             return s;
         }
         s = serve_line(block, line, tasks, promises, report, out, s);
@@ -151,7 +188,7 @@ fn serve_block(
     s
 }
 
-// The input ended. A last line without LF is served as if it had one. The tables and the report are then those of the input's end.
+// The input ended. A last line without LF is served as if it had one.
 fn finish(
     line: &mut [u8],
     tasks: &mut [u16],
@@ -159,17 +196,71 @@ fn finish(
     report: &mut [u16],
     out: &mut [u8],
     s: State,
-)
+) -> State
     requires { ⌜ (s .used ≤ length (now out)) × (length (now out) ≡ 32768) ⌝ }
-    ensures { λ r. ⌜ ((d : Desk) → At d s (now (line .entry)) (tablesOf (now (tasks .entry)) (now (promises .entry))) (now (report .entry)) (now (out .entry)) → s .going ≡ true → Ends d (tablesOf (now (tasks .exit)) (now (promises .exit))) (now (report .exit))) ⌝ }
+    ensures { λ r. ⌜ (r .used ≤ length (now (out .entry))) × (r .open ≡ true → s .open ≡ true) ⌝ }
+    ensures { λ r. ⌜ ((d : Desk) → r .open ≡ true
+        → At d s (now (line .entry)) (tablesOf (now (tasks .entry)) (now (promises .entry))) (now (report .entry))
+        (now (out .entry))
+        → At (ended d) r (now (line .exit)) (tablesOf (now (tasks .exit)) (now (promises .exit)))
+        (now (report .exit)) (now (out .exit))) ⌝ }
 {
     if line_gather::is_last(s.have) {
-        let last = serve_block(b"\n", line, tasks, promises, report, out, s);
-        put_out(out, last);
+        return serve_block(b"\n", line, tasks, promises, report, out, s);
+    }
+    s
+}
+
+// One read and what it brings: the lines of a block, or the input's end. All answers are put out. A read that fails
+// ends the input.
+fn read_on(
+    block: &mut [u8],
+    line: &mut [u8],
+    tasks: &mut [u16],
+    promises: &mut [u16],
+    report: &mut [u16],
+    out: &mut [u8],
+    was: Ran,
+) -> Ran
+    requires { ⌜ (was .state .used ≤ length (now out)) × (length (now out) ≡ 32768) × (was .reads < mostReads) ⌝ }
+    ensures { λ r. ⌜ (r .reads ≡ was .reads + 1) × (r .state .used ≡ 0) ⌝ }
+    ensures { λ r. ⌜ (was .ended ≡ false
+        → Reached was (now (line .entry)) (tablesOf (now (tasks .entry)) (now (promises .entry)))
+        (now (report .entry)) (now (out .entry))
+        → Reached r (now (line .exit)) (tablesOf (now (tasks .exit)) (now (promises .exit))) (now (report .exit))
+        (now (out .exit))) ⌝ }
+{
+    let got = libc::read(0, block);
+    let n = io::count(got, block);
+    let reads = was.reads + 1;
+    let s = was.state;
+    if n == 0 {
+        let last = finish(line, tasks, promises, report, out, s);
+        let state = put_out(out, last);
+        return Ran {
+            state,
+            reads,
+            ended: true,
+        };
+    }
+    let served = serve_block(&block[0..n], line, tasks, promises, report, out, s);
+    let state = put_out(out, served);
+    Ran {
+        state,
+        reads,
+        ended: false,
     }
 }
 
-// Every block of the input. A read that fails ends it.
+// Whether the program reads on.
+fn reads_on(ran: Ran) -> bool
+    ensures { λ r. ⌜ r ≡ (ran .state .going && ran .state .open && not (ran .ended) && ltb (ran .reads) mostReads) ⌝ }
+{
+    let s = ran.state;
+    s.going & s.open & !ran.ended & (ran.reads < u64::MAX)
+}
+
+// The whole run.
 fn run(
     block: &mut [u8],
     line: &mut [u8],
@@ -177,25 +268,17 @@ fn run(
     promises: &mut [u16],
     report: &mut [u16],
     out: &mut [u8],
-)
-    requires { ⌜ length (now out) ≡ 32768 ⌝ }
+) -> Ran
+    requires { ⌜ (length (now out) ≡ 32768) × (length (now line) ≡ longestLine)
+        × (tablesOf (now tasks) (now promises) ≡ zeroTables) × (now report ≡ replicate lineReport 0) ⌝ }
+    ensures { λ r. ⌜ Runs r (now (line .exit)) (tablesOf (now (tasks .exit)) (now (promises .exit)))
+        (now (report .exit)) (now (out .exit)) ⌝ }
 {
-    let mut s = start();
-    let mut turns = u64::MAX;
-    while turns > 0 {
-        turns -= 1;
-        s = put_out(out, s);
-        if !s.going {
-            return;
-        }
-        let got = libc::read(0, block);
-        let n = io::count(got, block);
-        if n == 0 {
-            finish(line, tasks, promises, report, out, s);
-            return;
-        }
-        s = serve_block(&block[0..n], line, tasks, promises, report, out, s);
+    let mut ran = start();
+    while reads_on(ran) {
+        ran = read_on(block, line, tasks, promises, report, out, ran);
     }
+    ran
 }
 
 fn main() {

@@ -31,10 +31,11 @@ use Rattle.answer_text.proofs.Fits.{refused-fits, placed-fits, opened-fits, ste
 use Rattle.line_session.specs.declared.Session.{Session}
 use Rattle.line_session.specs.declared.Session.the-variants.{Unopened, Open}
 use Rattle.line_session.specs.declared.Done.{Done}
-use Rattle.line_session.specs.Sessions.{Deed, refusedBy, opened, openDeed, unopenedDeed, openOutcome, deedOf, inSession, Does}
+use Rattle.line_session.specs.Sessions.{Deed, refusedBy, opened, openDeed, unopenedDeed, openOutcome, deedOf}
+use Rattle.line_session.specs.Sessions.{inSession, Does}
 use Rattle.line_session.proofs.SessionLaws.{freshRefusal-most, deed-list}
 use Rattle.line_entry.specs.declared.Entered.{Entered}
-use Rattle.line_entry.specs.Lines.{lentWell, entered, notEntered, Enters, heldLine, entryOf, replyOf}
+use Rattle.line_entry.specs.Lines.{lentWell, lineDeed, entered, notEntered, Enters, heldLine, entryOf, replyOf}
 
 -- ---- the entry
 
@@ -45,18 +46,30 @@ pub record Lent (n : ℕ) (session : Session) (st : Tables) (report out : ℕ) :
   pub promises-are : length (st .promises) ≡ ofLines .mostPromises
   pub room : longestAnswer ≤ out
 
-pub lentWell-true : (n : ℕ) (session : Session) (st : Tables) (report out : ℕ) → lentWell n session st report out ≡ true → Lent n session st report out
+pub lentWell-true : (n : ℕ) (session : Session) (st : Tables) (report out : ℕ)
+    → lentWell n session st report out ≡ true → Lent n session st report out
 unfolding lentWell
 lentWell-true n session st report out e =
     let tasks = length (st .tasks) in
     let promises = length (st .promises) in
-    let (abc, d) = and-split ((leb 1 n && leb n lastLine) && inSession session && (eqb tasks (ofLines .mostTasks) && eqb promises (ofLines .mostPromises))) (eqb report lineReport && leb longestAnswer out) e in
-    let (ab, c) = and-split ((leb 1 n && leb n lastLine) && inSession session) (eqb tasks (ofLines .mostTasks) && eqb promises (ofLines .mostPromises)) abc in
-    let (a, b) = and-split (leb 1 n && leb n lastLine) (inSession session) ab in
+    let T = ofLines .mostTasks in
+    let P = ofLines .mostPromises in
+    let numbered = leb 1 n && leb n lastLine in
+    let sized = eqb tasks T && eqb promises P in
+    let roomy = eqb report lineReport && leb longestAnswer out in
+    let (abc, d) = and-split (numbered && inSession session && sized) roomy e in
+    let (ab, c) = and-split (numbered && inSession session) sized abc in
+    let (a, b) = and-split numbered (inSession session) ab in
     let (a₁, a₂) = and-split (leb 1 n) (leb n lastLine) a in
-    let (c₁, c₂) = and-split (eqb tasks (ofLines .mostTasks)) (eqb promises (ofLines .mostPromises)) c in
+    let (c₁, c₂) = and-split (eqb tasks T) (eqb promises P) c in
     let (d₁, d₂) = and-split (eqb report lineReport) (leb longestAnswer out) d in
-    record { most = leb-true n lastLine a₂; session-is = b; tasks-are = eqb-true tasks (ofLines .mostTasks) c₁; promises-are = eqb-true promises (ofLines .mostPromises) c₂; room = leb-true longestAnswer out d₂ }
+    record {
+      most = leb-true n lastLine a₂;
+      session-is = b;
+      tasks-are = eqb-true tasks T c₁;
+      promises-are = eqb-true promises P c₂;
+      room = leb-true longestAnswer out d₂;
+    }
 
 -- the lent words have room for every list
 pub count-most : (s : List ℕ) → entryCount (lineForm s) ≤ mostEntries
@@ -69,14 +82,15 @@ count-most s = go (lineForm s) refl
     go (F.Bad c) e = omega arith
 
 -- what the lent words then hold is the list of the line
-step-entries : (s o x : List ℕ) (k : Kind) (t p c : ℕ) → lineForm s ≡ F.Step k t p c → x ≡ over (entriesOf s) o → take c x ≡ entriesOf s
+step-entries : (s o x : List ℕ) (k : Kind) (t p c : ℕ) → lineForm s ≡ F.Step k t p c → x ≡ over (entriesOf s) o
+    → take c x ≡ entriesOf s
 unfolding over
 step-entries s o x k t p c e w =
     let n : c ≡ length (entriesOf s) = step-counts s k t p c e in
     rw (w, n) (take-append-seam (entriesOf s) (drop (length (entriesOf s)) o))
 
-pub deed-read : (s o x : List ℕ) (f : LineForm) (session : Session) (st : Tables) (n : ℕ) → Judged s o x f → mostEntries ≤ length o
-    → deedOf f (take (entryCount f) x) session st n ≡ deedOf (lineForm s) (entriesOf s) session st n
+pub deed-read : (s o x : List ℕ) (f : LineForm) (session : Session) (st : Tables) (n : ℕ) → Judged s o x f
+    → mostEntries ≤ length o → deedOf f (take (entryCount f) x) session st n ≡ lineDeed s session st n
 unfolding entryCount over
 deed-read s o x f session st n j h =
     ap (λ (g : LineForm). deedOf g (take (entryCount g) x) session st n) (j .form)
@@ -85,54 +99,74 @@ deed-read s o x f session st n j h =
 
 -- ---- every answer fits
 
-deed-fits : (f : LineForm) (vs : List ℕ) (session : Session) (st : Tables) (rs : List ℕ) (m n : ℕ) → n ≤ lastLine → InLine f
-    → length (answerText n (deedOf f vs session st m .answer) (over (deedOf f vs session st m .words) rs)) ≤ longestAnswer
+-- the answer of a deed, as line n
+abbrev deedText : ℕ → Deed → List ℕ → List ℕ
+deedText n d rs = answerText n (d .answer) (over (d .words) rs)
+
+deed-fits : (f : LineForm) (vs : List ℕ) (session : Session) (st : Tables) (rs : List ℕ) (m n : ℕ) → n ≤ lastLine
+    → InLine f → length (deedText n (deedOf f vs session st m) rs) ≤ longestAnswer
 unfolding deedOf unopenedDeed openDeed openOutcome
 deed-fits (F.Open T P) vs Unopened st rs m n h l = go (eqb (freshRefusal ofLines T P) 0)
   where
-    go : (b : Bool) → length (answerText n (cond b (opened T P st) (refusedBy (Refused (freshRefusal ofLines T P)) Unopened st) .answer) (over (cond b (opened T P st) (refusedBy (Refused (freshRefusal ofLines T P)) Unopened st) .words) rs)) ≤ longestAnswer
+    go : (b : Bool) → let d = cond b (opened T P st) (refusedBy (Refused (freshRefusal ofLines T P)) Unopened st) in
+        length (deedText n d rs) ≤ longestAnswer
     go true = opened-fits n (over [] rs) h
     go false = refused-fits n (freshRefusal ofLines T P) (over [] rs) h (omega (arith, freshRefusal-most T P))
 deed-fits (F.Step k t p c) vs Unopened st rs m n h l = refused-fits n 15 (over [] rs) h (omega arith)
-deed-fits (F.Bad c) vs Unopened st rs m n h l = placed-fits n 14 c (over [] rs) h (omega arith) (omega (arith, l c refl))
+deed-fits (F.Bad c) vs Unopened st rs m n h l =
+    placed-fits n 14 c (over [] rs) h (omega arith) (omega (arith, l c refl))
 deed-fits (F.Open T′ P′) vs (Open T P) st rs m n h l = refused-fits n 15 (over [] rs) h (omega arith)
 deed-fits (F.Step k t p c) vs (Open T P) st rs m n h l = step-answer-fits n m (partOf T P st) (stepBy k t p vs) rs h
-deed-fits (F.Bad c) vs (Open T P) st rs m n h l = placed-fits n 14 c (over [] rs) h (omega arith) (omega (arith, l c refl))
+deed-fits (F.Bad c) vs (Open T P) st rs m n h l =
+    placed-fits n 14 c (over [] rs) h (omega arith) (omega (arith, l c refl))
 
 pub line-fits : (line : List ℕ) (session : Session) (st : Tables) (rs : List ℕ) (n : ℕ) → n ≤ lastLine
-    → let d = deedOf (lineForm line) (entriesOf line) session st (length rs) in length (answerText n (d .answer) (over (d .words) rs)) ≤ longestAnswer
-line-fits line session st rs n h = deed-fits (lineForm line) (entriesOf line) session st rs (length rs) n h (column-in-line line)
+    → length (deedText n (lineDeed line session st (length rs)) rs) ≤ longestAnswer
+line-fits line session st rs n h =
+    deed-fits (lineForm line) (entriesOf line) session st rs (length rs) n h (column-in-line line)
 
 -- EVERY ANSWER LINE FITS INTO WHAT WAS LENT FOR IT
-pub entry-within : (line : List ℕ) (n : ℕ) (session : Session) (st : Tables) (rs out : List ℕ) → entryOf line n session st rs out .bytes ≤ length out
+pub entry-within : (line : List ℕ) (n : ℕ) (session : Session) (st : Tables) (rs out : List ℕ)
+    → entryOf line n session st rs out .bytes ≤ length out
 unfolding entryOf
 entry-within line n session st rs out = go (lentWell n session st (length rs) (length out)) refl
   where
     d : Deed
-    d = deedOf (lineForm line) (entriesOf line) session st (length rs)
+    d = lineDeed line session st (length rs)
 
-    go : (b : Bool) → lentWell n session st (length rs) (length out) ≡ b → cond b (entered n rs out d) (notEntered session st rs out) .bytes ≤ length out
+    go : (b : Bool) → lentWell n session st (length rs) (length out) ≡ b
+        → cond b (entered n rs out d) (notEntered session st rs out) .bytes ≤ length out
     go true e =
         let w = lentWell-true n session st (length rs) (length out) e in
         omega (arith, line-fits line session st rs n (w .most), w .room)
     go false e = omega arith
 
 -- what was done and what was written make the entry
-pub enters-of : (n : ℕ) (rs out : List ℕ) {d d′ : Deed} {x : Done} {e : Entered} {st : Tables} {rs′ out′ : List ℕ} → d ≡ d′ → Does d rs x st rs′
-    → length (answerText n (d′ .answer) (over (d′ .words) rs)) ≤ length out → Wrote (answerText n (x .answer) rs′) out out′ (e .bytes) → e .number ≡ 0 → e .session ≡ x .session
+pub enters-of : (n : ℕ) (rs out : List ℕ) {d d′ : Deed} {x : Done} {e : Entered} {st : Tables} {rs′ out′ : List ℕ}
+    → d ≡ d′ → Does d rs x st rs′ → length (deedText n d′ rs) ≤ length out
+    → Wrote (answerText n (x .answer) rs′) out out′ (e .bytes) → e .number ≡ 0 → e .session ≡ x .session
     → Enters (entered n rs out d′) e st rs′ out′
 unfolding over
 enters-of n rs out {d} {d′} {x} {e} {st} {rs′} {out′} z does fit wrote number session =
     let g : Does d′ rs x st rs′ = subst (λ (y : Deed). Does y rs x st rs′) z does in
-    let w : Wrote (answerText n (d′ .answer) (over (d′ .words) rs)) out out′ (e .bytes) = subst₂ (λ (a : Answer) (r : List ℕ). Wrote (answerText n a r) out out′ (e .bytes)) (g .answer) (g .report) wrote in
+    let w : Wrote (deedText n d′ rs) out out′ (e .bytes) =
+    subst₂ (λ (a : Answer) (r : List ℕ). Wrote (answerText n a r) out out′ (e .bytes)) (g .answer) (g .report) wrote in
     let room = wrote-room w fit in
-    record { number = number; session = session ∙ g .session; bytes = room .0; after = g .after; report = g .report; answer = room .1 }
+    record {
+      number = number;
+      session = session ∙ g .session;
+      bytes = room .0;
+      after = g .after;
+      report = g .report;
+      answer = room .1;
+    }
 
 -- the list that a line was read into is as long as it was lent
 pub judged-count : (s o x : List ℕ) (f : LineForm) → Judged s o x f → mostEntries ≤ length o → entryCount f ≤ length x
 judged-count s o x f j h =
-    let e : length x ≡ length o = ap (λ (l : List ℕ). length l) (j .words) ∙ over-length (fitting (entriesOf s) o) o (fitting-most (entriesOf s) o) in
-    let k : entryCount f ≤ mostEntries = subst (λ (g : LineForm). entryCount g ≤ mostEntries) (sym (j .form)) (count-most s) in
+    let kept = over-length (fitting (entriesOf s) o) o (fitting-most (entriesOf s) o) in
+    let e : length x ≡ length o = ap (λ (l : List ℕ). length l) (j .words) ∙ kept in
+    let k = subst (λ (g : LineForm). entryCount g ≤ mostEntries) (sym (j .form)) (count-most s) in
     omega arith
 
 -- ---- a line that was gathered
@@ -151,17 +185,22 @@ unfolding heldLine
 heldLine-long x n h = rw (lt-ltb (length x) n h) (omega (arith, length-replicate {A = ℕ} (suc longestLine) 0))
 
 -- judging the part of the buffer where the line is
-pub judged-held : (x : List ℕ) (n : ℕ) {o y : List ℕ} {r : LineForm} → n ≤ length x → Judged (take (n - 0) x) o y r → Judged (heldLine x n) o y r
-judged-held x n {o} {y} {r} h j = subst (λ (l : List ℕ). Judged l o y r) (ap (λ (k : ℕ). take k x) (sub-zero n) ∙ sym (heldLine-within x n h)) j
+pub judged-held : (x : List ℕ) (n : ℕ) {o y : List ℕ} {r : LineForm} → n ≤ length x → Judged (take (n - 0) x) o y r
+    → Judged (heldLine x n) o y r
+judged-held x n {o} {y} {r} h j =
+    let e = ap (λ (k : ℕ). take k x) (sub-zero n) ∙ sym (heldLine-within x n h) in
+    subst (λ (l : List ℕ). Judged l o y r) e j
 
 -- the reply to a whole buffer is the entry of what it holds
-pub replied-whole : (x : List ℕ) (n : ℕ) (session : Session) (st : Tables) (rs out : List ℕ) {r : Entered} {st′ : Tables} {rs′ out′ : List ℕ}
-    → Enters (replyOf x (length x) n session st rs out) r st′ rs′ out′ → Enters (entryOf x n session st rs out) r st′ rs′ out′
+pub replied-whole : (x : List ℕ) (n : ℕ) (session : Session) (st : Tables) (rs out : List ℕ) {r : Entered}
+    {st′ : Tables} {rs′ out′ : List ℕ} → Enters (replyOf x (length x) n session st rs out) r st′ rs′ out′
+    → Enters (entryOf x n session st rs out) r st′ rs′ out′
 replied-whole x n session st rs out {r} {st′} {rs′} {out′} e =
     subst (λ (l : List ℕ). Enters (entryOf l n session st rs out) r st′ rs′ out′) (heldLine-whole x) e
 
 -- ALL LINES THAT ARE TOO LONG HAVE ONE ENTRY
-pub long-lines-alike : (s t : List ℕ) → longestLine < length s → longestLine < length t → (n : ℕ) (session : Session) (st : Tables) (rs out : List ℕ)
-    → entryOf s n session st rs out ≡ entryOf t n session st rs out
+pub long-lines-alike : (s t : List ℕ) → longestLine < length s → longestLine < length t → (n : ℕ) (session : Session)
+    (st : Tables) (rs out : List ℕ) → entryOf s n session st rs out ≡ entryOf t n session st rs out
 unfolding entryOf
-long-lines-alike s t h k n session st rs out = rw (lineForm-long s h, lineForm-long t k, entriesOf-long s h, entriesOf-long t k)
+long-lines-alike s t h k n session st rs out =
+    rw (lineForm-long s h, lineForm-long t k, entriesOf-long s h, entriesOf-long t k)

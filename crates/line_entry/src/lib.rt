@@ -12,12 +12,11 @@ ghost use Prim.Native.Nat.{_≤_};
 ghost use lib.ListN.{length};
 ghost use Rattle.words.specs.Words.{mostEntries};
 ghost use Rattle.rules.specs.Tables.{tables as tablesOf};
-ghost use Rattle.text_forms.specs.Judging.{lineForm, entriesOf, Judged};
-ghost use Rattle.line_session.specs.Sessions.{deedOf};
-ghost use Rattle.line_entry.specs.Lines.{lentWell, entered, heldLine, entryOf, replyOf, Enters};
+ghost use Rattle.text_forms.specs.Judging.{Judged};
+ghost use Rattle.line_entry.specs.Lines.{lentWell, lineDeed, entered, heldLine, entryOf, replyOf, Enters};
 
-// What the line entry answers: 1 if what it was lent is not as it must be, and then nothing was written, otherwise 0; the session value from then on; and how many
-// bytes the answer line has, its LF included.
+// What the line entry answers: 1 if what it was lent is not as it must be, and then nothing was written, otherwise 0;
+// the session value from then on; and how many bytes the answer line has, its LF included.
 pub struct Entered {
     pub number: u16,
     pub session: Session,
@@ -33,7 +32,8 @@ fn lent_well(
     report: usize,
     answer: usize,
 ) -> bool
-    ensures { λ r. ⌜ r ≡ lentWell number session (tablesOf (now (tasks .entry)) (now (promises .entry))) report answer ⌝ }
+    ensures { λ r. ⌜ r ≡ lentWell number session (tablesOf (now (tasks .entry)) (now (promises .entry)))
+        report answer ⌝ }
 {
     let numbered = (1 <= number) & (number <= Limit::LINES);
     let tables = (tasks.len() == Limit::TASKS) & (promises.len() == Limit::PROMISES);
@@ -63,8 +63,12 @@ fn answer_line(
     report: &mut [u16],
     answer: &mut [u8],
 ) -> Entered
-    requires { ⌜ (lentWell number session (tablesOf (now tasks) (now promises)) (length (now report)) (length (now answer)) ≡ true) × (mostEntries ≤ length (now list)) ⌝ }
-    ensures { λ r. ⌜ Enters (entered number (now (report .entry)) (now (answer .entry)) (deedOf (lineForm (heldLine (now (line .entry)) have)) (entriesOf (heldLine (now (line .entry)) have)) session (tablesOf (now (tasks .entry)) (now (promises .entry))) (length (now (report .entry))))) r (tablesOf (now (tasks .exit)) (now (promises .exit))) (now (report .exit)) (now (answer .exit)) ⌝ }
+    requires { ⌜ (lentWell number session (tablesOf (now tasks) (now promises))
+        (length (now report)) (length (now answer)) ≡ true) × (mostEntries ≤ length (now list)) ⌝ }
+    ensures { λ r. ⌜ Enters (entered number (now (report .entry)) (now (answer .entry))
+        (lineDeed (heldLine (now (line .entry)) have) session (tablesOf (now (tasks .entry)) (now (promises .entry)))
+        (length (now (report .entry)))))
+        r (tablesOf (now (tasks .exit)) (now (promises .exit))) (now (report .exit)) (now (answer .exit)) ⌝ }
 {
     let form = judge_held(line, have, list);
     let done = act(form, list, session, tasks, promises, report);
@@ -78,7 +82,8 @@ fn answer_line(
     }
 }
 
-// The answer to a line that the buffer `line` gathered, without its LF. `have` of its bytes were counted: more than the buffer holds say that the line is too long.
+// The answer to a line that the buffer `line` gathered, without its LF. `have` of its bytes were counted: more than the
+// buffer holds say that the line is too long.
 pub fn reply(
     line: &[u8],
     have: usize,
@@ -89,7 +94,9 @@ pub fn reply(
     report: &mut [u16],
     answer: &mut [u8],
 ) -> Entered
-    ensures { λ r. ⌜ Enters (replyOf (now (line .entry)) have number session (tablesOf (now (tasks .entry)) (now (promises .entry))) (now (report .entry)) (now (answer .entry))) r (tablesOf (now (tasks .exit)) (now (promises .exit))) (now (report .exit)) (now (answer .exit)) ⌝ }
+    ensures { λ r. ⌜ Enters (replyOf (now (line .entry)) have number session
+        (tablesOf (now (tasks .entry)) (now (promises .entry))) (now (report .entry)) (now (answer .entry)))
+        r (tablesOf (now (tasks .exit)) (now (promises .exit))) (now (report .exit)) (now (answer .exit)) ⌝ }
 {
     if lent_well(number, session, tasks, promises, report.len(), answer.len()) {
         let mut list = [0; Limit::ENTRIES];
@@ -122,7 +129,9 @@ pub fn enter(
     report: &mut [u16],
     answer: &mut [u8],
 ) -> Entered
-    ensures { λ r. ⌜ Enters (entryOf (now (line .entry)) number session (tablesOf (now (tasks .entry)) (now (promises .entry))) (now (report .entry)) (now (answer .entry))) r (tablesOf (now (tasks .exit)) (now (promises .exit))) (now (report .exit)) (now (answer .exit)) ⌝ }
+    ensures { λ r. ⌜ Enters (entryOf (now (line .entry)) number session
+        (tablesOf (now (tasks .entry)) (now (promises .entry))) (now (report .entry)) (now (answer .entry)))
+        r (tablesOf (now (tasks .exit)) (now (promises .exit))) (now (report .exit)) (now (answer .exit)) ⌝ }
 {
     reply(
         line,

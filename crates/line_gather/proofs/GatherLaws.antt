@@ -33,7 +33,9 @@ module _ (s : List ℕ) (from e : ℕ) (q : e ≡ endFrom lineEnd s from) where
 
   pub pieceOf-length : length (pieceOf s from) ≡ e - from
   unfolding pieceOf
-  pieceOf-length = length-take-le (runTo lineEnd (drop from s)) (drop from s) (runTo-most lineEnd (drop from s)) ∙ sym long
+  pieceOf-length =
+      let r = runTo lineEnd (drop from s) in
+      length-take-le r (drop from s) (runTo-most lineEnd (drop from s)) ∙ sym long
 
 pub pieceOf-past : (s : List ℕ) (from : ℕ) → length s ≤ from → pieceOf s from ≡ []
 unfolding pieceOf
@@ -43,7 +45,8 @@ pieceOf-past s from h = rw (drop-of-length-le s h) (take-nil (runTo lineEnd []))
 
 module _ (o : List ℕ) (have : ℕ) (s : List ℕ) (from : ℕ) where
   -- nothing is left of the block
-  pub gathered-past : (n : ℕ) → length s ≤ from → n ≡ min (have + 0) (length o + 1) → Gathered o have s from o (G.More n)
+  pub gathered-past : (n : ℕ) → length s ≤ from → n ≡ min (have + 0) (length o + 1)
+      → Gathered o have s from o (G.More n)
   unfolding gotOf counted
   gathered-past n h q =
       let p = pieceOf-past s from h in
@@ -64,11 +67,17 @@ module _ (o : List ℕ) (have : ℕ) (s : List ℕ) (from : ℕ) where
     unfolding gotOf
     gathered-line h =
         let l : endFrom lineEnd s from < length s = omega arith in
-        record { answer = rw (lt-ltb (endFrom lineEnd s from) (length s) l, ← count, ← q); bytes = rw (pieceOf-part s from e q) at (a .text) }
+        record {
+          answer = rw (lt-ltb (endFrom lineEnd s from) (length s) l, ← count, ← q);
+          bytes = rw (pieceOf-part s from e q) at (a .text);
+        }
 
     -- the block ends before
     pub gathered-more : length s ≤ e → Gathered o have s from x (G.More n)
     unfolding gotOf
     gathered-more h =
         let l : length s ≤ endFrom lineEnd s from = omega arith in
-        record { answer = rw (le-ltb (endFrom lineEnd s from) (length s) l, ← count); bytes = rw (pieceOf-part s from e q) at (a .text) }
+        record {
+          answer = rw (le-ltb (endFrom lineEnd s from) (length s) l, ← count);
+          bytes = rw (pieceOf-part s from e q) at (a .text);
+        }

@@ -4,8 +4,8 @@ ghost use mathlib.Core.Path.{_≡_};
 ghost use Prim.Native.Nat.{_+_, min};
 ghost use Rattle.line_gather.specs.Gather.{Gathered, isLast, numberAfter};
 
-// A whole line of so many bytes, one more than the buffer holds if it is too long, and where the next one starts in the block; or the
-// block ended, and so many bytes of the line are there.
+// A whole line of so many bytes, one more than the buffer holds if it is too long, and where the next one starts in the
+// block; or the block ended, and so many bytes of the line are there.
 pub enum Got {
     Line(usize, usize),
     More(usize),

@@ -24,9 +24,9 @@ use Rattle.line_serving.specs.declared.Served.{Served}
 use Rattle.line_serving.specs.Serving.{fullText, answeredTurn, wentOn, stopped, brought, numbered, turnOf, Serves}
 
 -- what was entered is what was answered
-pub serves-entered : (x : List ℕ) (n next : ℕ) {e : Entry} {r : Entered} {q : Served} {st : Tables} {rs out : List ℕ} → Enters e r st rs out
-    → q .next ≡ next → q .have ≡ 0 → q .lines ≡ n → q .session ≡ r .session → q .bytes ≡ r .bytes → q .going ≡ true
-    → Serves (answeredTurn x n next e) q x st rs out
+pub serves-entered : (x : List ℕ) (n next : ℕ) {e : Entry} {r : Entered} {q : Served} {st : Tables} {rs out : List ℕ}
+    → Enters e r st rs out → q .next ≡ next → q .have ≡ 0 → q .lines ≡ n → q .session ≡ r .session
+    → q .bytes ≡ r .bytes → q .going ≡ true → Serves (answeredTurn x n next e) q x st rs out
 serves-entered x n next e a b c d f g = record {
   next = a;
   have = b;
@@ -41,23 +41,27 @@ serves-entered x n next e a b c d f g = record {
 }
 
 module _ (b : List ℕ) (from : ℕ) (x : List ℕ) (have lines : ℕ) (session : Session) (st : Tables) (rs out : List ℕ) where
-  pub turn-full : numberAfter lines ≡ N.Full → turnOf b from x have lines session st rs out ≡ stopped b from x have lines session st rs out
+  pub turn-full : numberAfter lines ≡ N.Full
+      → turnOf b from x have lines session st rs out ≡ stopped b from x have lines session st rs out
   unfolding turnOf numbered
   turn-full e = rw e
 
   -- each turn goes on in the block, and stays within it
-  turn-on : from < length b → (from < turnOf b from x have lines session st rs out .next) × (turnOf b from x have lines session st rs out .next ≤ length b)
+  turn-on : from < length b → let r = turnOf b from x have lines session st rs out .next in
+      (from < r) × (r ≤ length b)
   unfolding turnOf numbered brought gotOf
   turn-on h = go (numberAfter lines)
     where
       E : ℕ
       E = endFrom lineEnd b from
 
-      ends : (n k : ℕ) (t : Bool) → ltb E (length b) ≡ t → let r = brought b from x have lines session st rs out n (cond t (G.Line k (E + 1)) (G.More k)) .next in (from < r) × (r ≤ length b)
+      ends : (n k : ℕ) (t : Bool) → ltb E (length b) ≡ t → let got = cond t (G.Line k (E + 1)) (G.More k) in
+          let r = brought b from x have lines session st rs out n got .next in (from < r) × (r ≤ length b)
       ends n k true e = (omega (arith, endFrom-from lineEnd b from), omega (arith, ltb-true E (length b) e))
       ends n k false e = (h, omega arith)
 
-      go : (m : Numbering) → let r = numbered b from x have lines session st rs out m .next in (from < r) × (r ≤ length b)
+      go : (m : Numbering) → let r = numbered b from x have lines session st rs out m .next in
+          (from < r) × (r ≤ length b)
       go (N.Line n) = ends n (counted (length x) (have + length (pieceOf b from))) (ltb E (length b)) refl
       go N.Full = (h, omega arith)
 
@@ -74,7 +78,8 @@ module _ (b : List ℕ) (from : ℕ) (x : List ℕ) (have lines : ℕ) (session 
       go (N.Line n) = brings n (gotOf (length x) have b from)
       go N.Full = fitting-most fullText out
 
-  module _ {q : Served} {y : List ℕ} {st′ : Tables} {rs′ out′ : List ℕ} (s : Serves (turnOf b from x have lines session st rs out) q y st′ rs′ out′) where
+  module _ {q : Served} {y : List ℕ} {st′ : Tables} {rs′ out′ : List ℕ}
+      (s : Serves (turnOf b from x have lines session st rs out) q y st′ rs′ out′) where
     pub served-on : from < length b → (from < q .next) × (q .next ≤ length b)
     served-on h = let (l, k) = turn-on h in (rw (s .next) l, rw (s .next) k)
 
@@ -82,17 +87,21 @@ module _ (b : List ℕ) (from : ℕ) (x : List ℕ) (have lines : ℕ) (session 
     served-within = rw (s .bytes) turn-within
 
   module _ (n : ℕ) (e : numberAfter lines ≡ N.Line n) where
-    pub turn-more : (k : ℕ) → gotOf (length x) have b from ≡ G.More k → turnOf b from x have lines session st rs out ≡ wentOn b from x have lines session st rs out k
+    pub turn-more : (k : ℕ) → gotOf (length x) have b from ≡ G.More k
+        → turnOf b from x have lines session st rs out ≡ wentOn b from x have lines session st rs out k
     unfolding turnOf numbered brought
     turn-more k g = rw (e, g)
 
-    pub turn-line : (k next : ℕ) → gotOf (length x) have b from ≡ G.Line k next
-        → turnOf b from x have lines session st rs out ≡ answeredTurn (gatheredIn x have b from) n next (replyOf (gatheredIn x have b from) k n session st rs out)
+    pub turn-line : (k next : ℕ) → gotOf (length x) have b from ≡ G.Line k next → let y = gatheredIn x have b from in
+        turnOf b from x have lines session st rs out ≡ answeredTurn y n next (replyOf y k n session st rs out)
     unfolding turnOf numbered brought
     turn-line k next g = rw (e, g)
 
-    pub serves-line : {y : List ℕ} {got : Got} {k next : ℕ} {q : Served} {st′ : Tables} {rs′ out′ : List ℕ} → Gathered x have b from y got → got ≡ G.Line k next
-        → Serves (answeredTurn y n next (replyOf y k n session st rs out)) q y st′ rs′ out′ → Serves (turnOf b from x have lines session st rs out) q y st′ rs′ out′
+    pub serves-line : {y : List ℕ} {got : Got} {k next : ℕ} {q : Served} {st′ : Tables} {rs′ out′ : List ℕ}
+        → Gathered x have b from y got → got ≡ G.Line k next
+        → Serves (answeredTurn y n next (replyOf y k n session st rs out)) q y st′ rs′ out′
+        → Serves (turnOf b from x have lines session st rs out) q y st′ rs′ out′
     serves-line {y} {got} {k} {next} {q} {st′} {rs′} {out′} g h s =
         rw (turn-line k next (sym (g .answer) ∙ h))
-        (subst (λ (z : List ℕ). Serves (answeredTurn z n next (replyOf z k n session st rs out)) q y st′ rs′ out′) (g .bytes) s)
+        (subst (λ (z : List ℕ). Serves (answeredTurn z n next (replyOf z k n session st rs out)) q y st′ rs′ out′)
+        (g .bytes) s)

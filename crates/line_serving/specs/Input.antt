@@ -1,6 +1,6 @@
--- The input byte by byte, and what is printed for it. Paper: 01, "Lines": "The program `bench` reads standard input with a line buffer of 2,048 bytes, passes over the
--- rest of a longer line (one refusal 14), takes a last line without LF if it isn't empty, and prints one answer line each. At the millionth line it prints `full` and
--- stops".
+-- The input byte by byte, and what is printed for it. Paper: 01, "Lines": "The program `bench` reads standard input
+-- with a line buffer of 2,048 bytes, passes over the rest of a longer line (one refusal 14), takes a last line without
+-- LF if it isn't empty, and prints one answer line each. At the millionth line it prints `full` and stops".
 --
 --   Desk               what there is between two bytes of the input
 --   opening            before the first
@@ -29,7 +29,8 @@ use Rattle.line_session.specs.declared.Session.the-variants.{Unopened}
 use Rattle.line_entry.specs.Lines.{Entry, entryOf}
 use Rattle.line_serving.specs.Serving.{fullText, Turn}
 
--- how many lines were answered, the session value, the tables and the report, the bytes of the line that has begun, whether more lines are taken, and what was printed
+-- how many lines were answered, the session value, the tables and the report, the bytes of the line that has begun,
+-- whether more lines are taken, and what was printed
 pub record Desk : Type 0 where
   pub lines : ℕ
   pub session : Session
@@ -44,7 +45,15 @@ abbrev pub zeroTables : Tables
 zeroTables = tables (replicate (ofLines .mostTasks) 0) (replicate (ofLines .mostPromises) 0)
 
 abbrev pub opening : Desk
-opening = record { lines = 0; session = Unopened; after = zeroTables; report = replicate lineReport 0; begun = []; going = true; said = [] }
+opening = record {
+  lines = 0;
+  session = Unopened;
+  after = zeroTables;
+  report = replicate lineReport 0;
+  begun = [];
+  going = true;
+  said = [];
+}
 
 -- the line that has begun has these bytes more
 abbrev pub begunWith : Desk → List ℕ → Desk
@@ -104,13 +113,15 @@ ended d = cond (isLast (length (d .begun))) (fed d lineEnd) d
 unfoldable pub printed : List ℕ → List ℕ
 printed s = ended (feed opening s) .said
 
--- the line buffer x holds the line that has begun, of which so many bytes are counted; it held `first` when the line began
+-- the line buffer x holds the line that has begun, of which so many bytes are counted; it held `first` when the line
+-- began
 pub record Buffered (d : Desk) (x : List ℕ) (have : ℕ) : Type 0 where
   pub first : List ℕ
   pub room : length first ≡ longestLine
   pub held : Holds (d .begun) first x have
 
--- the turn t takes the bytes of the block b from `from` on up to its own end, prints what it wrote, and leaves the desk d′
+-- the turn t takes the bytes of the block b from `from` on up to its own end, prints what it wrote, and leaves the
+-- desk d′
 pub record Advances (d : Desk) (b : List ℕ) (from : ℕ) (t : Turn) (d′ : Desk) : Type 0 where
   pub bytes : feed d (drop from b) ≡ feed d′ (drop (t .next) b)
   pub said : d′ .said ≡ d .said ++ take (t .bytes) (t .out)

@@ -3,7 +3,8 @@
 --   fullText              what is said at the millionth line
 --   Turn                  everything that there is after a piece of a block
 --   turnOf b from x k n session s rs out
---                         the turn of the block b from `from` on, where the line buffer x has gathered k bytes of a line, and n lines were answered
+--                         the turn of the block b from `from` on, where the line buffer x has gathered k bytes of a
+--                         line, and n lines were answered
 --   Serves ..             a call answered and left these
 -- Input.antt says the same byte by byte, and Theorems.antt that they agree.
 -- Assumes nothing.
@@ -87,7 +88,8 @@ module _ (b : List ℕ) (from : ℕ) (x : List ℕ) (have lines : ℕ) (session 
 
   -- what the block brings to line n
   unfoldable pub brought : ℕ → Got → Turn
-  brought n (G.Line k next) = answeredTurn (gatheredIn x have b from) n next (replyOf (gatheredIn x have b from) k n session s rs out)
+  brought n (G.Line k next) =
+      answeredTurn (gatheredIn x have b from) n next (replyOf (gatheredIn x have b from) k n session s rs out)
   brought n (G.More k) = wentOn k
 
   unfoldable pub numbered : Numbering → Turn

@@ -6,8 +6,9 @@ ghost use Rattle.rules.specs.Tables.{tables as tablesOf};
 ghost use Rattle.line_serving.specs.Serving.{turnOf, answeredTurn, Serves};
 ghost use Rattle.line_entry.specs.Lines.{replyOf};
 
-// What there is after a piece of a block: where the next piece starts, how many bytes of the line that has begun were counted, how many lines were answered, the
-// session value, how many bytes were written for an answer, and whether more lines are taken.
+// What there is after a piece of a block: where the next piece starts, how many bytes of the line that has begun were
+// counted, how many lines were answered, the session value, how many bytes were written for an answer, and whether more
+// lines are taken.
 pub struct Served {
     pub next: usize,
     pub have: usize,
@@ -17,7 +18,8 @@ pub struct Served {
     pub going: bool,
 }
 
-// Answers line `number`, which the buffer `line` gathered and of which `have` bytes were counted. The next one starts at `next`.
+// Answers line `number`, which the buffer `line` gathered and of which `have` bytes were counted. The next one starts
+// at `next`.
 fn answer(
     line: &[u8],
     have: usize,
@@ -29,7 +31,11 @@ fn answer(
     report: &mut [u16],
     out: &mut [u8],
 ) -> Served
-    ensures { λ r. ⌜ Serves (answeredTurn (now (line .entry)) number next (replyOf (now (line .entry)) have number session (tablesOf (now (tasks .entry)) (now (promises .entry))) (now (report .entry)) (now (out .entry)))) r (now (line .entry)) (tablesOf (now (tasks .exit)) (now (promises .exit))) (now (report .exit)) (now (out .exit)) ⌝ }
+    ensures { λ r. ⌜ Serves (answeredTurn (now (line .entry)) number next
+        (replyOf (now (line .entry)) have number session (tablesOf (now (tasks .entry)) (now (promises .entry)))
+        (now (report .entry)) (now (out .entry))))
+        r (now (line .entry)) (tablesOf (now (tasks .exit)) (now (promises .exit))) (now (report .exit))
+        (now (out .exit)) ⌝ }
 {
     let entered = line_entry::reply(line, have, number, session, tasks, promises, report, out);
     let after = entered.session;
@@ -43,8 +49,8 @@ fn answer(
     }
 }
 
-// Takes the bytes of the block from `from` on, up to the end of the line there: gathers them into the line buffer and, where the line ends, answers it. At the
-// millionth line it says `full`, and no more lines are taken.
+// Takes the bytes of the block from `from` on, up to the end of the line there: gathers them into the line buffer and,
+// where the line ends, answers it. At the millionth line it says `full`, and no more lines are taken.
 pub fn serve(
     block: &[u8],
     from: usize,
@@ -57,7 +63,10 @@ pub fn serve(
     report: &mut [u16],
     out: &mut [u8],
 ) -> Served
-    ensures { λ r. ⌜ Serves (turnOf (now (block .entry)) from (now (line .entry)) have lines session (tablesOf (now (tasks .entry)) (now (promises .entry))) (now (report .entry)) (now (out .entry))) r (now (line .exit)) (tablesOf (now (tasks .exit)) (now (promises .exit))) (now (report .exit)) (now (out .exit)) ⌝ }
+    ensures { λ r. ⌜ Serves (turnOf (now (block .entry)) from (now (line .entry)) have lines session
+        (tablesOf (now (tasks .entry)) (now (promises .entry))) (now (report .entry)) (now (out .entry)))
+        r (now (line .exit)) (tablesOf (now (tasks .exit)) (now (promises .exit))) (now (report .exit))
+        (now (out .exit)) ⌝ }
 {
     let after = line_gather::number_after(lines);
     match after {

@@ -27,21 +27,28 @@ use Rattle.text_forms.specs.declared.LineForm.the-variants as F
 use Rattle.line_session.specs.declared.Session.{Session}
 use Rattle.line_session.specs.declared.Session.the-variants.{Unopened, Open}
 use Rattle.line_session.specs.declared.Done.{Done}
-use Rattle.line_session.specs.Sessions.{Deed, refusedBy, opened, openDeed, unopenedDeed, inPart, openOutcome, partOutcome, deedOf, inSession, Does}
+use Rattle.line_session.specs.Sessions.{Deed, refusedBy, opened, openDeed, unopenedDeed, inPart, openOutcome}
+use Rattle.line_session.specs.Sessions.{partOutcome, deedOf, inSession, Does}
 
 -- what was done to the parts that were lent was done to the first words of the tables
-pub inPart-of : (T P : ℕ) (s : Tables) {o : Outcome} {s′ : Tables} {rs rs′ : List ℕ} {a : Answer} → Gives o rs a s′ rs′ → Gives (inPart T P s o) rs a (putBack T P s s′) rs′
+pub inPart-of : (T P : ℕ) (s : Tables) {o : Outcome} {s′ : Tables} {rs rs′ : List ℕ} {a : Answer}
+    → Gives o rs a s′ rs′ → Gives (inPart T P s o) rs a (putBack T P s s′) rs′
 inPart-of T P s g = record { answer = g .answer; after = ap (putBack T P s) (g .after); report = g .report }
 
 -- ---- before a session is opened
 
 refusal-number : (F : Form) (T P : ℕ) → freshRefusal F T P ≡ 0 → sizesInBounds F T P ≡ true
 unfolding freshRefusal
-refusal-number F T P e = not-is-false (sizesInBounds F T P) (first-past 1 (not (sizesInBounds F T P)) [] (eqb-false 1 0 refl) e .0)
+refusal-number F T P e =
+    let past = first-past 1 (not (sizesInBounds F T P)) [] (eqb-false 1 0 refl) e in
+    not-is-false (sizesInBounds F T P) (past .0)
 
 -- where an open is not refused, T and P are within their bounds
-pub freshRefusal-none : (T P : ℕ) → freshRefusal ofLines T P ≡ 0 → (T ≤ ofLines .mostTasks) × (P ≤ ofLines .mostPromises)
-freshRefusal-none T P e = let s = sizesInBounds-true ofLines T P (refusal-number ofLines T P e) in (s .tasks, s .promises)
+pub freshRefusal-none : (T P : ℕ) → freshRefusal ofLines T P ≡ 0
+    → (T ≤ ofLines .mostTasks) × (P ≤ ofLines .mostPromises)
+freshRefusal-none T P e =
+    let s = sizesInBounds-true ofLines T P (refusal-number ofLines T P e) in
+    (s .tasks, s .promises)
 
 -- its one refusal is 1
 pub freshRefusal-most : (T P : ℕ) → freshRefusal ofLines T P ≤ 1
@@ -52,25 +59,34 @@ freshRefusal-most T P = go (sizesInBounds ofLines T P)
     go true = omega arith
     go false = omega arith
 
-pub does-refused : {d : Deed} (s : Tables) (session : Session) (a : Answer) {x : Done} → d ≡ refusedBy a session s → x .answer ≡ a → x .session ≡ session → Does d [] x s []
+pub does-refused : {d : Deed} (s : Tables) (session : Session) (a : Answer) {x : Done} → d ≡ refusedBy a session s
+    → x .answer ≡ a → x .session ≡ session → Does d [] x s []
 does-refused s session a e q b = rw e (record { answer = q; session = b; after = refl; report = sym (over-none []) })
 
-pub openDeed-refused : (s : Tables) (T P r : ℕ) → r ≡ freshRefusal ofLines T P → r ≢ 0 → openDeed s T P ≡ refusedBy (Refused r) Unopened s
+pub openDeed-refused : (s : Tables) (T P r : ℕ) → r ≡ freshRefusal ofLines T P → r ≢ 0
+    → openDeed s T P ≡ refusedBy (Refused r) Unopened s
 unfolding openDeed
 openDeed-refused s T P r e n = rw (← e, ne-eqb r 0 n)
 
 -- fresh tables of the parts that were lent are fresh tables of that size
-freshened-part : (T P : ℕ) (s : Tables) → T ≤ length (s .tasks) → P ≤ length (s .promises) → freshRefusal ofLines T P ≡ 0
-    → freshened ofLines (partOf T P s) ≡ fresh T P
+freshened-part : (T P : ℕ) (s : Tables) → T ≤ length (s .tasks) → P ≤ length (s .promises)
+    → freshRefusal ofLines T P ≡ 0 → freshened ofLines (partOf T P s) ≡ fresh T P
 unfolding freshened
-freshened-part T P s h k e = rw (length-take-le T (s .tasks) h, length-take-le P (s .promises) k, eq-eqb (freshRefusal ofLines T P) 0 e)
+freshened-part T P s h k e =
+    rw (length-take-le T (s .tasks) h, length-take-le P (s .promises) k, eq-eqb (freshRefusal ofLines T P) 0 e)
 
-pub does-opened : (T P : ℕ) (s : Tables) {r : ℕ} {s′ : Tables} {x : Done} → T ≤ length (s .tasks) → P ≤ length (s .promises) → freshRefusal ofLines T P ≡ 0
-    → Freshens ofLines (partOf T P s) r s′ → x .answer ≡ Opened → x .session ≡ Open T P → Does (openDeed s T P) [] x (putBack T P s s′) []
+pub does-opened : (T P : ℕ) (s : Tables) {r : ℕ} {s′ : Tables} {x : Done} → T ≤ length (s .tasks)
+    → P ≤ length (s .promises) → freshRefusal ofLines T P ≡ 0 → Freshens ofLines (partOf T P s) r s′
+    → x .answer ≡ Opened → x .session ≡ Open T P → Does (openDeed s T P) [] x (putBack T P s s′) []
 unfolding openDeed
 does-opened T P s h k e f a b =
     rw (eq-eqb (freshRefusal ofLines T P) 0 e)
-    (record { answer = a; session = b; after = ap (putBack T P s) (f .after ∙ freshened-part T P s h k e); report = sym (over-none []) })
+    (record {
+      answer = a;
+      session = b;
+      after = ap (putBack T P s) (f .after ∙ freshened-part T P s h k e);
+      report = sym (over-none []);
+    })
 
 -- a line before a session is opened writes no report
 unopened-words : (f : LineForm) (s : Tables) → unopenedDeed f s .words ≡ []
@@ -95,17 +111,20 @@ does-unopened f vs s rs n d = record {
 
 -- ---- in an open session
 
-pub inSession-open : (T P : ℕ) → inSession (Open T P) ≡ true → (T ≤ ofLines .mostTasks) × (P ≤ ofLines .mostPromises)
+pub inSession-open : (T P : ℕ) → inSession (Open T P) ≡ true
+    → (T ≤ ofLines .mostTasks) × (P ≤ ofLines .mostPromises)
 unfolding inSession
 inSession-open T P e = let s = sizesInBounds-true ofLines T P e in (s .tasks, s .promises)
 
-pub does-open : (f : LineForm) (vs : List ℕ) (s : Tables) (rs : List ℕ) (n T P : ℕ) {x : Done} {a : Answer} {s′ : Tables} {rs′ : List ℕ}
-    → Gives (partOutcome f vs n T P s) rs a s′ rs′ → x .answer ≡ a → x .session ≡ Open T P → Does (deedOf f vs (Open T P) s n) rs x s′ rs′
+pub does-open : (f : LineForm) (vs : List ℕ) (s : Tables) (rs : List ℕ) (n T P : ℕ) {x : Done} {a : Answer}
+    {s′ : Tables} {rs′ : List ℕ} → Gives (partOutcome f vs n T P s) rs a s′ rs′ → x .answer ≡ a
+    → x .session ≡ Open T P → Does (deedOf f vs (Open T P) s n) rs x s′ rs′
 unfolding deedOf
 does-open f vs s rs n T P d e g = record { answer = e ∙ d .answer; session = g; after = d .after; report = d .report }
 
 -- a line does what it does with its own list, however the list was lent
-pub deed-list : (f : LineForm) (vs vs′ : List ℕ) (session : Session) (s : Tables) (n : ℕ) → ((k : Kind) (t p c : ℕ) → f ≡ F.Step k t p c → vs ≡ vs′) → deedOf f vs session s n ≡ deedOf f vs′ session s n
+pub deed-list : (f : LineForm) (vs vs′ : List ℕ) (session : Session) (s : Tables) (n : ℕ)
+    → ((k : Kind) (t p c : ℕ) → f ≡ F.Step k t p c → vs ≡ vs′) → deedOf f vs session s n ≡ deedOf f vs′ session s n
 unfolding deedOf openOutcome
 deed-list f vs vs′ Unopened s n h = refl
 deed-list (F.Open T P) vs vs′ (Open T′ P′) s n h = refl

@@ -8,6 +8,7 @@
 --   inPart T P s o, partOutcome f vs n T P s   an outcome on the first T and P words of the tables s
 --   deedOf f vs session s n      what it does
 --   Does ..                      a call answered and left these
+--   OnlyAnswers d session s      the deed d has an answer and leaves the session value, the tables s and the report
 -- Assumes nothing.
 use Prim.Native.Nat.{ℕ}
 use mathlib.Core.Path.{_≡_}
@@ -62,9 +63,13 @@ stepped T P o = record { answer = o .answer; session = Open T P; after = o .afte
 
 -- ---- before a session is opened
 
--- "Refusal 15: well formed but out of place, a step before open"; "a refused open (T not 1 to 64, P above 256: refusal 1) .. leaves the session unopened"
+-- "Refusal 15: well formed but out of place, a step before open"; "a refused open (T not 1 to 64, P above 256: refusal
+-- 1) .. leaves the session unopened"
 unfoldable pub openDeed : Tables → ℕ → ℕ → Deed
-openDeed s T P = cond (eqb (freshRefusal ofLines T P) 0) (opened T P s) (refusedBy (Refused (freshRefusal ofLines T P)) Unopened s)
+openDeed s T P =
+    cond (eqb (freshRefusal ofLines T P) 0)
+    (opened T P s)
+    (refusedBy (Refused (freshRefusal ofLines T P)) Unopened s)
 
 unfoldable pub unopenedDeed : LineForm → Tables → Deed
 unopenedDeed (F.Open T P) s = openDeed s T P
@@ -73,7 +78,8 @@ unopenedDeed (F.Bad column) s = refusedBy (refusedAtColumn column) Unopened s
 
 -- ---- in an open session
 
--- n is the report's length, vs are the entries of a step's list. "or a second open": 15. "14 comes before 15, both before the step's own."
+-- n is the report's length, vs are the entries of a step's list. "or a second open": 15. "14 comes before 15, both
+-- before the step's own."
 unfoldable pub openOutcome : LineForm → List ℕ → ℕ → Tables → Outcome
 openOutcome (F.Open T P) vs n s = outcome (Refused 15) s []
 openOutcome (F.Step k t p c) vs n s = step ofLines n s (stepBy k t p vs)
@@ -90,9 +96,16 @@ unfoldable pub deedOf : LineForm → List ℕ → Session → Tables → ℕ →
 deedOf f vs Unopened s n = unopenedDeed f s
 deedOf f vs (Open T P) s n = stepped T P (partOutcome f vs n T P s)
 
--- what the parts of the entry give: an answer, a session value, the tables and the report are those of a deed; rs is the report before
+-- what the parts of the entry give: an answer, a session value, the tables and the report are those of a deed; rs is
+-- the report before
 pub record Does (d : Deed) (rs : List ℕ) (r : Done) (s′ : Tables) (rs′ : List ℕ) : Type 0 where
   pub answer : r .answer ≡ d .answer
   pub session : r .session ≡ d .session
   pub after : s′ ≡ d .after
   pub report : rs′ ≡ over (d .words) rs
+
+-- nothing but the answer is left of a deed
+pub record OnlyAnswers (d : Deed) (session : Session) (s : Tables) : Type 0 where
+  pub session-stays : d .session ≡ session
+  pub tables-stay : d .after ≡ s
+  pub no-words : d .words ≡ []

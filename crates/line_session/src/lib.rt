@@ -14,7 +14,8 @@ ghost use Rattle.words.specs.Words.{ofLines};
 ghost use Rattle.rules.specs.Tables.{tables as tablesOf};
 ghost use Rattle.rules.specs.Contracts.{Gives};
 ghost use Rattle.text_forms.specs.Judging.{entryCount};
-ghost use Rattle.line_session.specs.Sessions.{inSession, refusedAtColumn, unopenedDeed, openDeed, openOutcome, partOutcome, deedOf, Does};
+ghost use Rattle.line_session.specs.Sessions.{inSession, refusedAtColumn, unopenedDeed, openDeed, openOutcome};
+ghost use Rattle.line_session.specs.Sessions.{partOutcome, deedOf, Does};
 
 // The session value: unopened, or the numbers of tasks and promises of the session.
 pub enum Session {
@@ -57,7 +58,9 @@ fn in_open(
     report: &mut [u16],
 ) -> Answer
     requires { ⌜ entryCount form ≤ length (now list) ⌝ }
-    ensures { λ r. ⌜ Gives (openOutcome form (take (entryCount form) (now (list .entry))) (length (now (report .entry))) (tablesOf (now (tasks .entry)) (now (promises .entry)))) (now (report .entry)) r (tablesOf (now (tasks .exit)) (now (promises .exit))) (now (report .exit)) ⌝ }
+    ensures { λ r. ⌜ Gives (openOutcome form (take (entryCount form) (now (list .entry))) (length (now (report .entry)))
+        (tablesOf (now (tasks .entry)) (now (promises .entry)))) (now (report .entry))
+        r (tablesOf (now (tasks .exit)) (now (promises .exit))) (now (report .exit)) ⌝ }
 {
     match form {
         LineForm::Open(_, _) => Answer::Refused(15),
@@ -69,7 +72,8 @@ fn in_open(
 // Opens a session of `t` tasks and `p` promises: fresh tables go into the first words of the lent ones.
 fn open_session(t: u16, p: u16, tasks: &mut [u16], promises: &mut [u16]) -> Done
     requires { ⌜ (length (now tasks) ≡ ofLines .mostTasks) × (length (now promises) ≡ ofLines .mostPromises) ⌝ }
-    ensures { λ r. ⌜ Does (openDeed (tablesOf (now (tasks .entry)) (now (promises .entry))) t p) [] r (tablesOf (now (tasks .exit)) (now (promises .exit))) [] ⌝ }
+    ensures { λ r. ⌜ Does (openDeed (tablesOf (now (tasks .entry)) (now (promises .entry))) t p) []
+        r (tablesOf (now (tasks .exit)) (now (promises .exit))) [] ⌝ }
 {
     let i = t as usize;
     let j = p as usize;
@@ -100,7 +104,8 @@ fn refused_unopened(answer: Answer) -> Done
 // A line before a session is opened.
 fn unopened(form: LineForm, tasks: &mut [u16], promises: &mut [u16]) -> Done
     requires { ⌜ (length (now tasks) ≡ ofLines .mostTasks) × (length (now promises) ≡ ofLines .mostPromises) ⌝ }
-    ensures { λ r. ⌜ Does (unopenedDeed form (tablesOf (now (tasks .entry)) (now (promises .entry)))) [] r (tablesOf (now (tasks .exit)) (now (promises .exit))) [] ⌝ }
+    ensures { λ r. ⌜ Does (unopenedDeed form (tablesOf (now (tasks .entry)) (now (promises .entry)))) []
+        r (tablesOf (now (tasks .exit)) (now (promises .exit))) [] ⌝ }
 {
     match form {
         LineForm::Open(t, p) => open_session(t, p, tasks, promises),
@@ -120,7 +125,9 @@ fn in_part(
     report: &mut [u16],
 ) -> Answer
     requires { ⌜ (entryCount form ≤ length (now list)) × (t ≤ length (now tasks)) × (p ≤ length (now promises)) ⌝ }
-    ensures { λ r. ⌜ Gives (partOutcome form (take (entryCount form) (now (list .entry))) (length (now (report .entry))) t p (tablesOf (now (tasks .entry)) (now (promises .entry)))) (now (report .entry)) r (tablesOf (now (tasks .exit)) (now (promises .exit))) (now (report .exit)) ⌝ }
+    ensures { λ r. ⌜ Gives (partOutcome form (take (entryCount form) (now (list .entry))) (length (now (report .entry)))
+        t p (tablesOf (now (tasks .entry)) (now (promises .entry)))) (now (report .entry))
+        r (tablesOf (now (tasks .exit)) (now (promises .exit))) (now (report .exit)) ⌝ }
 {
     in_open(form, list, &mut tasks[0..t], &mut promises[0..p], report)
 }
@@ -134,8 +141,11 @@ pub fn act(
     promises: &mut [u16],
     report: &mut [u16],
 ) -> Done
-    requires { ⌜ (entryCount form ≤ length (now list)) × (inSession session ≡ true) × (length (now tasks) ≡ ofLines .mostTasks) × (length (now promises) ≡ ofLines .mostPromises) ⌝ }
-    ensures { λ r. ⌜ Does (deedOf form (take (entryCount form) (now (list .entry))) session (tablesOf (now (tasks .entry)) (now (promises .entry))) (length (now (report .entry)))) (now (report .entry)) r (tablesOf (now (tasks .exit)) (now (promises .exit))) (now (report .exit)) ⌝ }
+    requires { ⌜ (entryCount form ≤ length (now list)) × (inSession session ≡ true)
+        × (length (now tasks) ≡ ofLines .mostTasks) × (length (now promises) ≡ ofLines .mostPromises) ⌝ }
+    ensures { λ r. ⌜ Does (deedOf form (take (entryCount form) (now (list .entry))) session
+        (tablesOf (now (tasks .entry)) (now (promises .entry))) (length (now (report .entry)))) (now (report .entry))
+        r (tablesOf (now (tasks .exit)) (now (promises .exit))) (now (report .exit)) ⌝ }
 {
     match session {
         Session::Unopened => unopened(form, tasks, promises),

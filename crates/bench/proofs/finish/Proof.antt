@@ -1,12 +1,14 @@
--- `finish` meets its contract: the LF that the last line lacks is a block of its own, of which nothing is left. Assumes nothing.
-use Prim.Native.Nat.{_<_}
-use mathlib.Core.Path.{_≡_, sym, _∙_}
-use native.Mathlib.Omega.{arith}
-use Rattle.rules.specs.Tables.{tables}
-use Rattle.bench.proofs.BenchLaws.{ends-served, ends-none}
+-- `finish` meets its contract: the LF that the last line lacks is a block of its own. Assumes nothing.
+use mathlib.Core.Path.{sym, _∙_}
+use Rattle.rules.specs.Tables.{Tables, tables}
+use Rattle.bench.proofs.BenchLaws.{ended-line, ended-none}
 use borrow.Author.Needs.{needs}
 use Rattle.bench.proofs.finish.Statement.{statement}
 use Rattle.bench.proofs.finish.Tie as tie
+
+-- the place that the needs speak of
+abbrev start : tie.After-is-last → tie.Start
+start c = c .before .before .before .before .before .before
 
 is-last-requires : tie.Need-is-last-requires
 is-last-requires c κs = search needs
@@ -16,9 +18,6 @@ slice-aggregate-serve-block c = search needs
 
 serve-block-requires : tie.Need-serve-block-requires
 serve-block-requires c κs = search needs
-
-put-out-requires : tie.Need-put-out-requires
-put-out-requires c κs = search needs
 
 same-length : tie.Need-same-length
 same-length c = search needs
@@ -36,17 +35,23 @@ same-length-5 : tie.Need-same-length-5
 same-length-5 c = search needs
 
 returns : tie.Need-returns
-returns c = λ d h g.
-    let w = c .before .before .before .before .before .before .before .before .before .before .before .before .serve-block in
-    let a = c .before .before .before .before .before .before .before .before .before .before .before .before .before .before .before .before .before .before .before .before .before .before .before .before .before .before .args in
-    let more : 0 < w .result .from = w .ensures .0 .3 g (omega arith) in
-    let all : w .result .from ≡ 1 = omega (arith, w .ensures .0 .1, more) in
-    ends-served d (a .s) (w .result) (a .line .now) (tables (a .tasks .now) (a .promises .now)) (a .report .now) (a .out .now) _ _ _ _ (sym (c .before .before .before .before .before .before .before .before .before .before .before .before .before .before .before .before .before .before .before .before .is-last .ensures) ∙ c .before .before .before .before .before .before .before .before .before .before .before .before .before .before .before .before .before .before .before .if1 .taken) h all (w .ensures .1 d h)
+returns c =
+    let served = c .before .before .before .before .before .before .before .before .before .before in
+    let last = served .before .before .before .before .before .before .before in
+    let asked = last .before in
+    let w = served .serve-block in (
+      w .ensures .0,
+      λ d g h.
+          ended-line d (start asked .args .s) _ _ _ _ h _ _ _ _ _ (sym (asked .is-last .ensures) ∙ last .if1 .taken)
+          (w .ensures .1 d g h),
+    )
 
 returns-2 : tie.Need-returns-2
-returns-2 c = λ d h g.
-    let a = c .before .before .before .before .before .before .before .args in
-    ends-none d (a .s) (a .line .now) (tables (a .tasks .now) (a .promises .now)) (a .report .now) (a .out .now) (sym (c .before .is-last .ensures) ∙ c .if1 .left) h
+returns-2 c =
+    let asked = c .before in (
+      (start asked .pre .0, λ g. g),
+      λ d g h. ended-none d (start asked .args .s) _ _ _ _ h (sym (asked .is-last .ensures) ∙ c .if1 .left),
+    )
 
 pub finish-spec : {M : Type 1} → statement M
 finish-spec =
@@ -55,7 +60,6 @@ finish-spec =
     is-last-requires
     slice-aggregate-serve-block
     serve-block-requires
-    put-out-requires
     same-length
     same-length-2
     same-length-3

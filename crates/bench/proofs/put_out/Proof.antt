@@ -1,12 +1,10 @@
--- `put_out` meets its contract: where the program goes on, it went on before. Assumes nothing.
+-- `put_out` meets its contract: what waits is the part of the output array that is written, and its bytes are counted.
+-- Assumes nothing.
 use mathlib.Core.Path.{refl}
 use Rattle.words.proofs.BoolLaws.{and-split}
 use borrow.Author.Needs.{needs}
 use Rattle.bench.proofs.put_out.Statement.{statement}
 use Rattle.bench.proofs.put_out.Tie as tie
-
-returns : tie.Need-returns
-returns c = search needs
 
 sub-write-all : tie.Need-sub-write-all
 sub-write-all c = search needs
@@ -20,16 +18,28 @@ part-write-all-end c = search needs
 write-all-requires : tie.Need-write-all-requires
 write-all-requires c κs = search needs
 
-returns-2 : tie.Need-returns-2
-returns-2 c = (refl, refl, refl, refl, refl, λ g. and-split (c .before .before .before .before .before .args .s .going) (c .before .write-all .result) g .0)
+wrapping-add-u64-requires : tie.Need-wrapping-add-u64-requires
+wrapping-add-u64-requires c κs = search needs
+
+returns : tie.Need-returns
+returns c =
+    let added = c .before in
+    let written = added .before in
+    let s = written .before .before .before .args .s in (
+      refl,
+      (refl, refl, refl, refl),
+      refl,
+      added .wrapping-add-u64 .ensures,
+      λ g. and-split (s .open) (written .write-all .result) g .0,
+    )
 
 pub put-out-spec : {M : Type 1} → statement M
 put-out-spec =
     tie.close
     (tie.spec
-    returns
     sub-write-all
     part-write-all-start
     part-write-all-end
     write-all-requires
-    returns-2)
+    wrapping-add-u64-requires
+    returns)

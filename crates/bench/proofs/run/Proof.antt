@@ -1,30 +1,97 @@
--- `run` meets its contract: no array changes its length from read to read. The count of reads falls, since nothing says that the input ends.
+-- `run` meets its contract: from read to read the program is where the desk is after what the reads brought, and no
+-- array changes its length. The count of reads rises to its bound, since nothing says that the input ends.
 -- Assumes nothing.
-use Prim.Native.Nat.{ℕ, _≤_}
-use mathlib.Core.Path.{_≡_, subst, _∙_}
+use Prim.Native.Nat.{_-_, _≤_, _<_}
+use mathlib.Core.Path.{_≡_, sym, _∙_}
+use mathlib.Core.Bool.{false}
 use lib.ListN.{length}
 use borrow.Author.Needs.{needs}
+use native.Mathlib.Omega.{arith}
+use Rattle.rules.specs.Tables.{tables}
+use Rattle.bench.specs.Running.{Reached, mostReads}
+use Rattle.bench.proofs.BenchLaws.{reached-start, reads-more, reads-all}
 use Rattle.bench.proofs.run.Statement.{statement}
 use Rattle.bench.proofs.run.Tie as tie
 
 abbrev Inv-loop : tie.InvT-loop
-Inv-loop block₀ line₀ tasks₀ promises₀ report₀ out₀ s₀ turns₀ block line tasks promises report out s turns =
-    (length block ≡ length block₀) × (length line ≡ length line₀) × (length tasks ≡ length tasks₀) × (length promises ≡ length promises₀) × (length report ≡ length report₀) × (length out ≡ length out₀) × (s .used ≤ length out₀)
+Inv-loop block₀ line₀ tasks₀ promises₀ report₀ out₀ ran₀ block line tasks promises report out ran =
+    (length block ≡ length block₀)
+    × (length line ≡ length line₀)
+    × (length tasks ≡ length tasks₀)
+    × (length promises ≡ length promises₀)
+    × (length report ≡ length report₀)
+    × (length out ≡ length out₀)
+    × (ran .state .used ≡ 0)
+    × (ran .reads ≤ mostReads)
+    × Reached ran line (tables tasks promises) report out
 
 abbrev μ-loop : tie.MeasureT-loop
-μ-loop block₀ line₀ tasks₀ promises₀ report₀ out₀ s₀ turns₀ block line tasks promises report out s turns = turns
+μ-loop block₀ line₀ tasks₀ promises₀ report₀ out₀ ran₀ block line tasks promises report out ran = mostReads - ran .reads
+
+-- the places that the needs speak of
+abbrev start : tie.After-start Inv-loop μ-loop → tie.Start Inv-loop μ-loop
+start c = c .before .before .before .before .before .before .before
+
+abbrev passed : tie.After-read-on-arg6 Inv-loop μ-loop → tie.Then1 Inv-loop μ-loop
+passed c = c .before .before .before .before .before .before
+
+-- where the program reads on, the input's end has not come, and it may read once more
+reading : (c : tie.Then1 Inv-loop μ-loop) → let ran = c .before .before .loop .ran in
+    (ran .ended ≡ false) × (ran .reads < mostReads)
+reading c =
+    let ran = c .before .before .loop .ran in
+    reads-more (ran .state .going) (ran .state .open) (ran .ended) (ran .reads)
+    (sym (c .before .reads-on .ensures) ∙ c .if1 .taken)
 
 start-requires : tie.Need-start-requires Inv-loop μ-loop
 start-requires c κs = search needs
 
 loop-holds : tie.Need-loop-holds Inv-loop μ-loop
-loop-holds c = search needs
+loop-holds c =
+    let e = c .start .ensures in
+    let pre = start c .pre in (
+      search needs,
+      search needs,
+      search needs,
+      search needs,
+      search needs,
+      search needs,
+      e .3,
+      omega (arith, e .7),
+      rw (pre .2, pre .3) (reached-start (c .start .result) _ _ (pre .1) e),
+    )
 
-sub-turns : tie.Need-sub-turns Inv-loop μ-loop
-sub-turns c = search needs
+reads-on-requires : tie.Need-reads-on-requires Inv-loop μ-loop
+reads-on-requires c κs = search needs
 
-put-out-requires : tie.Need-put-out-requires Inv-loop μ-loop
-put-out-requires c κs = search needs
+read-on-requires : tie.Need-read-on-requires Inv-loop μ-loop
+read-on-requires c κs =
+    let t = passed c in
+    let l = t .before .before .loop in
+    let pre = start (t .before .before .before) .pre in
+    (omega (arith, l .inv .6), l .inv .5 ∙ pre .0, reading t .1)
+
+loop-less : tie.Need-loop-less Inv-loop μ-loop
+loop-less c =
+    let came = c .before .before .before .before .before .before .before .before .before .before .before .before in
+    omega (arith, came .read-on .ensures .0 .0, reading (passed (came .before)) .1)
+
+loop-again : tie.Need-loop-again Inv-loop μ-loop
+loop-again c =
+    let came = c .before .before .before .before .before .before .before .before .before .before .before .before in
+    let t = passed (came .before) in
+    let l = t .before .before .loop in
+    let w = came .read-on in (
+      w .kept .0 ∙ l .inv .0,
+      w .kept .1 .0 ∙ l .inv .1,
+      w .kept .1 .1 .0 ∙ l .inv .2,
+      w .kept .1 .1 .1 .0 ∙ l .inv .3,
+      w .kept .1 .1 .1 .1 .0 ∙ l .inv .4,
+      w .kept .1 .1 .1 .1 .1 .0 ∙ l .inv .5,
+      w .ensures .0 .1,
+      omega (arith, w .ensures .0 .0, reading t .1),
+      w .ensures .1 (reading t .0) (l .inv .8),
+    )
 
 same-length : tie.Need-same-length Inv-loop μ-loop
 same-length c = search needs
@@ -45,87 +112,15 @@ same-length-6 : tie.Need-same-length-6 Inv-loop μ-loop
 same-length-6 c = search needs
 
 returns : tie.Need-returns Inv-loop μ-loop
-returns c = search needs
-
-read-requires : tie.Need-read-requires Inv-loop μ-loop
-read-requires c κs = search needs
-
-count-requires : tie.Need-count-requires Inv-loop μ-loop
-count-requires c κs = search needs
-
-finish-requires : tie.Need-finish-requires Inv-loop μ-loop
-finish-requires c κs = search needs
-
-same-length-7 : tie.Need-same-length-7 Inv-loop μ-loop
-same-length-7 c = search needs
-
-same-length-8 : tie.Need-same-length-8 Inv-loop μ-loop
-same-length-8 c = search needs
-
-same-length-9 : tie.Need-same-length-9 Inv-loop μ-loop
-same-length-9 c = search needs
-
-same-length-10 : tie.Need-same-length-10 Inv-loop μ-loop
-same-length-10 c = search needs
-
-same-length-11 : tie.Need-same-length-11 Inv-loop μ-loop
-same-length-11 c = search needs
-
-same-length-12 : tie.Need-same-length-12 Inv-loop μ-loop
-same-length-12 c = search needs
-
-returns-2 : tie.Need-returns-2 Inv-loop μ-loop
-returns-2 c = search needs
-
-sub-serve-block : tie.Need-sub-serve-block Inv-loop μ-loop
-sub-serve-block c = search needs
-
-part-serve-block-start : tie.Need-part-serve-block-start Inv-loop μ-loop
-part-serve-block-start c = search needs
-
-part-serve-block-end : tie.Need-part-serve-block-end Inv-loop μ-loop
-part-serve-block-end c = search needs
-
-serve-block-requires : tie.Need-serve-block-requires Inv-loop μ-loop
-serve-block-requires c κs = search needs
-
-loop-less : tie.Need-loop-less Inv-loop μ-loop
-loop-less c = search needs
-
-loop-again : tie.Need-loop-again Inv-loop μ-loop
-loop-again c =
-    let w = c .before .before .before .before .before .before .before .before .before .before in
-    let r = w .before .before .before .before .before .before .before .before .before .before .before .before .before in
-    let h = r .before .before .before .before .before .before .before .loop .inv in (
-      r .read .kept .1 .0 ∙ h .0,
-      w .serve-block .kept .1 .0 ∙ h .1,
-      w .serve-block .kept .1 .1 .0 ∙ h .2,
-      w .serve-block .kept .1 .1 .1 .0 ∙ h .3,
-      w .serve-block .kept .1 .1 .1 .1 .0 ∙ h .4,
-      w .serve-block .kept .1 .1 .1 .1 .1 .0 ∙ h .5,
-      subst (λ (n : ℕ). w .serve-block .result .used ≤ n) (h .5) (w .serve-block .ensures .0 .0),
-    )
-
-same-length-13 : tie.Need-same-length-13 Inv-loop μ-loop
-same-length-13 c = search needs
-
-same-length-14 : tie.Need-same-length-14 Inv-loop μ-loop
-same-length-14 c = search needs
-
-same-length-15 : tie.Need-same-length-15 Inv-loop μ-loop
-same-length-15 c = search needs
-
-same-length-16 : tie.Need-same-length-16 Inv-loop μ-loop
-same-length-16 c = search needs
-
-same-length-17 : tie.Need-same-length-17 Inv-loop μ-loop
-same-length-17 c = search needs
-
-same-length-18 : tie.Need-same-length-18 Inv-loop μ-loop
-same-length-18 c = search needs
-
-returns-3 : tie.Need-returns-3 Inv-loop μ-loop
-returns-3 c = search needs
+returns c =
+    let l = c .before .before .loop in
+    let ran = l .ran in
+    record {
+      reached = l .inv .8;
+      stops =
+          reads-all (ran .state .going) (ran .state .open) (ran .ended) (ran .reads)
+          (sym (c .before .reads-on .ensures) ∙ c .if1 .left) (l .inv .7);
+    }
 
 pub run-spec : {M : Type 1} → statement M
 run-spec =
@@ -135,35 +130,14 @@ run-spec =
     μ-loop
     start-requires
     loop-holds
-    sub-turns
-    put-out-requires
+    reads-on-requires
+    read-on-requires
+    loop-less
+    loop-again
     same-length
     same-length-2
     same-length-3
     same-length-4
     same-length-5
     same-length-6
-    returns
-    read-requires
-    count-requires
-    finish-requires
-    same-length-7
-    same-length-8
-    same-length-9
-    same-length-10
-    same-length-11
-    same-length-12
-    returns-2
-    sub-serve-block
-    part-serve-block-start
-    part-serve-block-end
-    serve-block-requires
-    loop-less
-    loop-again
-    same-length-13
-    same-length-14
-    same-length-15
-    same-length-16
-    same-length-17
-    same-length-18
-    returns-3)
+    returns)

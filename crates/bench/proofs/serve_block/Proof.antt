@@ -1,31 +1,65 @@
--- `serve_block` meets its contract: each turn goes on in the block from where the turns before it led, and no array changes its length.
--- Assumes nothing.
+-- `serve_block` meets its contract: each turn goes on in the block from where the turns before it led, and no array
+-- changes its length. Assumes nothing.
 use Prim.Native.Nat.{ℕ, _-_, _≤_}
-use mathlib.Core.Path.{_≡_, refl, subst, _∙_}
+use mathlib.Core.Path.{_≡_, sym, subst, _∙_}
+use mathlib.Core.Bool.{true, _&&_}
 use lib.ListN.{length}
 use borrow.Author.Needs.{needs}
 use native.Mathlib.Omega.{arith}
-use Rattle.rules.specs.Tables.{tables}
+use Rattle.words.proofs.BoolLaws.{not-is-false, and-split}
+use Rattle.rules.specs.Tables.{Tables, tables}
 use Rattle.line_serving.specs.Input.{Desk}
 use Rattle.bench.specs.Carrying.{At, Fed}
-use Rattle.bench.proofs.BenchLaws.{goes-on, stops-or-goes, more-than-none, at-same, fed-none, fed-more}
+use Rattle.bench.proofs.BenchLaws.{waits-same, at-moved, fed-none, fed-more, fed-all, fed-full, down-first}
 use Rattle.bench.proofs.serve_block.Statement.{statement}
 use Rattle.bench.proofs.serve_block.Tie as tie
 
 abbrev Inv-loop : tie.InvT-loop
 Inv-loop block line₀ tasks₀ promises₀ report₀ out₀ s₀ line tasks promises report out s =
-    (length line ≡ length line₀) × (length tasks ≡ length tasks₀) × (length promises ≡ length promises₀) × (length report ≡ length report₀) × (length out ≡ length out₀) × (s .used ≤ length out₀) × (s .from ≤ length block) × (s .from ≡ 0 → s .going ≡ s₀ .going) × ((d : Desk) → At d s₀ line₀ (tables tasks₀ promises₀) report₀ out₀ → Fed d block 0 s line (tables tasks promises) report out)
+    (length line ≡ length line₀)
+    × (length tasks ≡ length tasks₀)
+    × (length promises ≡ length promises₀)
+    × (length report ≡ length report₀)
+    × (length out ≡ length out₀)
+    × (s .used ≤ length out₀)
+    × (s .from ≤ length block)
+    × (s .open ≡ true → s₀ .open ≡ true)
+    × ((d : Desk) → At d s₀ line₀ (tables tasks₀ promises₀) report₀ out₀
+    → Fed d block 0 s line (tables tasks promises) report out)
 
 abbrev μ-loop : tie.MeasureT-loop
 μ-loop block line₀ tasks₀ promises₀ report₀ out₀ s₀ line tasks promises report out s = length block - s .from
+
+-- the places that the needs speak of
+abbrev start : tie.After-at-start Inv-loop μ-loop → tie.Start Inv-loop μ-loop
+start c = c .before .before .before .before .before .before .before
+
+abbrev lent : tie.Start Inv-loop μ-loop → Tables
+lent c = tables (c .args .tasks .now) (c .args .promises .now)
+
+-- at the block's start the program is where it was
+at-was : (c : tie.After-at-start Inv-loop μ-loop) (d : Desk) → let first = start c in let a = first .args in
+    At d (a .was) (a .line .now) (lent first) (a .report .now) (a .out .now)
+    → At d (c .at-start .result) (a .line .now) (lent first) (a .report .now) (a .out .now)
+at-was c d h =
+    let e = c .at-start .ensures in
+    at-moved d _ _ _ _ _ _ (e .1) (waits-same (d .said) _ _ (h .waits) _ (e .2) (e .3)) h
 
 at-start-requires : tie.Need-at-start-requires Inv-loop μ-loop
 at-start-requires c κs = search needs
 
 loop-holds : tie.Need-loop-holds Inv-loop μ-loop
-loop-holds c =
-    let e = c .at-start .ensures in
-    (search needs, search needs, search needs, search needs, search needs, search needs, search needs, λ z. refl, λ d h. fed-none d _ _ _ _ _ _ (e .0) h)
+loop-holds c = (
+  search needs,
+  search needs,
+  search needs,
+  search needs,
+  search needs,
+  search needs,
+  search needs,
+  λ g. g,
+  λ d h. fed-none d _ _ _ _ _ _ (c .at-start .ensures .0) h,
+)
 
 same-length : tie.Need-same-length Inv-loop μ-loop
 same-length c = search needs
@@ -44,11 +78,14 @@ same-length-5 c = search needs
 
 returns : tie.Need-returns Inv-loop μ-loop
 returns c =
-    let l = c .before .before .before .before .loop in
-    let e = c .before .before .before .before .before .at-start .ensures in
-    let s = c .before .before .before .before .before .at-start .result in
-    let a = c .before .before .before .before .before .before .before .before .before .before .before .before .args in
-    ((search needs, search needs, λ g. stops-or-goes (l .s .going) g (c .if2 .taken), λ g k. more-than-none (l .s .from) (λ z. stops-or-goes (l .s .going) (l .inv .7 z ∙ e .5 ∙ g) (c .if2 .taken))), λ d h. l .inv .8 d (at-same d (a .was) s (a .line .now) (tables (a .tasks .now) (a .promises .now)) (a .report .now) (a .out .now) (e .2) (e .3) (e .4) (e .5) (e .1) h))
+    let looped = c .before .before .before .before in
+    let l = looped .loop in
+    let e = looped .before .at-start .ensures in (
+      (l .inv .5, λ g. sym (e .4) ∙ l .inv .7 g),
+      λ d g h.
+          fed-full d _ (l .s) _ _ _ _ (l .inv .8 d (at-was (looped .before) d h))
+          (down-first (l .s .going) (l .s .open) (c .if2 .taken) g),
+    )
 
 serve-line-requires : tie.Need-serve-line-requires Inv-loop μ-loop
 serve-line-requires c κs = search needs
@@ -58,9 +95,11 @@ loop-less c = search needs
 
 loop-again : tie.Need-loop-again Inv-loop μ-loop
 loop-again c =
-    let w = c .before .before .before .before .before .before .before .before .before .before .serve-line in
-    let l = c .before .before .before .before .before .before .before .before .before .before .before .before .before .before .before .before .before .before .before .before .loop in
-    let a = c .before .before .before .before .before .before .before .before .before .before .before .before .before .before .before .before .before .before .before .before .before .before .before .before .before .before .before .before .args in (
+    let served = c .before .before .before .before .before .before .before .before .before .before in
+    let passed = served .before .before .before .before .before .before in
+    let l = passed .before .before .before .before .loop in
+    let w = served .serve-line in
+    let both = and-split (l .s .going) (l .s .open) (not-is-false (l .s .going && l .s .open) (passed .if2 .left)) in (
       search needs,
       search needs,
       search needs,
@@ -68,8 +107,8 @@ loop-again c =
       search needs,
       subst (λ (n : ℕ). w .result .used ≤ n) (l .inv .4) (w .ensures .0 .2),
       w .ensures .0 .1,
-      λ z. absurd (omega (arith, w .ensures .0 .0)),
-      λ d h. fed-more (a .block .now) (l .s) (w .result) (l .line) (tables (l .tasks) (l .promises)) (l .report) (l .out) _ _ _ _ d 0 (c .before .before .before .before .before .before .before .before .before .before .before .before .before .before .before .before .before .before .if1 .taken) (goes-on (l .s .going) (c .before .before .before .before .before .before .before .before .before .before .before .before .before .before .before .before .if2 .left)) (w .ensures .1) (l .inv .8 d h),
+      λ g. l .inv .7 (w .ensures .0 .3 g),
+      λ d h. let f = l .inv .8 d h in fed-more f (w .ensures .1 (f .desk) (both .0) (f .at)),
     )
 
 same-length-6 : tie.Need-same-length-6 Inv-loop μ-loop
@@ -89,11 +128,12 @@ same-length-10 c = search needs
 
 returns-2 : tie.Need-returns-2 Inv-loop μ-loop
 returns-2 c =
-    let l = c .before .before .loop in
-    let e = c .before .before .before .at-start .ensures in
-    let s = c .before .before .before .at-start .result in
-    let a = c .before .before .before .before .before .before .before .before .before .before .args in
-    ((search needs, search needs, λ g. omega arith, λ g k. omega arith), λ d h. l .inv .8 d (at-same d (a .was) s (a .line .now) (tables (a .tasks .now) (a .promises .now)) (a .report .now) (a .out .now) (e .2) (e .3) (e .4) (e .5) (e .1) h))
+    let looped = c .before .before in
+    let l = looped .loop in
+    let e = looped .before .at-start .ensures in (
+      (l .inv .5, λ g. sym (e .4) ∙ l .inv .7 g),
+      λ d g h. fed-all d _ (l .s) _ _ _ _ (l .inv .8 d (at-was (looped .before) d h)) (omega (arith, l .inv .6)),
+    )
 
 pub serve-block-spec : {M : Type 1} → statement M
 serve-block-spec =

@@ -1,18 +1,38 @@
+-- `line_entry::answer_line` meets its contract: what was judged is what is done, and its answer line fits into what was
+-- lent for it. Assumes nothing.
 use mathlib.Core.Path.{refl}
+use mathlib.Core.List.{List}
+use Prim.Native.Nat.{ℕ}
 use lib.ListN.{length}
 use Rattle.line_entry.specs.Lines.{heldLine}
-use Rattle.rules.specs.Tables.{tables}
+use Rattle.rules.specs.Tables.{Tables, tables}
 use Rattle.line_entry.proofs.LineLaws.{lentWell-true, judged-count, deed-read, line-fits, enters-of}
 use native.Mathlib.Omega.{arith}
 use borrow.Author.Needs.{needs}
 use Rattle.line_entry.proofs.answer_line.Statement.{statement}
 use Rattle.line_entry.proofs.answer_line.Tie as tie
 
+-- the places that the needs speak of
+abbrev judged : tie.After-act-arg4 → tie.After-judge-held
+judged c = c .before .before .before .before .before .before
+
+abbrev start : tie.After-judge-held → tie.Start
+start c = c .before .before .before .before .before .before .before .before
+
+abbrev lent : tie.Start → Tables
+lent c = tables (c .args .tasks .now) (c .args .promises .now)
+
+abbrev held : tie.Start → List ℕ
+held c = heldLine (c .args .line .now) (c .args .have)
+
 judge-held-requires : tie.Need-judge-held-requires
 judge-held-requires c κs = search needs
 
 act-requires : tie.Need-act-requires
-act-requires c κs = let w = lentWell-true _ _ _ _ _ (c .before .before .before .before .before .before .before .before .before .before .before .before .before .before .pre .0) in (judged-count _ _ _ _ (c .before .before .before .before .before .before .judge-held .ensures) (c .before .before .before .before .before .before .before .before .before .before .before .before .before .before .pre .1), w .session-is, w .tasks-are, w .promises-are)
+act-requires c κs =
+    let pre = start (judged c) .pre in
+    let w = lentWell-true _ _ _ _ _ (pre .0) in
+    (judged-count _ _ _ _ (judged c .judge-held .ensures) (pre .1), w .session-is, w .tasks-are, w .promises-are)
 
 put-answer-requires : tie.Need-put-answer-requires
 put-answer-requires c κs = search needs
@@ -34,12 +54,17 @@ same-length-5 c = search needs
 
 returns : tie.Need-returns
 returns c =
-    let a = c .before .before .before .before .before .before .before .before .before .before .before .before .before .before .before .before .before .before .before .before .before .before .before .before .before .before .args in
-    let w = lentWell-true _ _ _ _ _ (c .before .before .before .before .before .before .before .before .before .before .before .before .before .before .before .before .before .before .before .before .before .before .before .before .before .before .pre .0) in
-    let fit = line-fits (heldLine (a .line .now) (a .have)) (a .session) (tables (a .tasks .now) (a .promises .now)) (a .report .now) (a .number) (w .most) in
-    enters-of (a .number) (a .report .now) (a .answer .now)
-    (deed-read (heldLine (a .line .now) (a .have)) (a .list .now) _ _ (a .session) (tables (a .tasks .now) (a .promises .now)) (length (a .report .now)) (c .before .before .before .before .before .before .before .before .before .before .before .before .before .before .before .before .before .before .judge-held .ensures) (c .before .before .before .before .before .before .before .before .before .before .before .before .before .before .before .before .before .before .before .before .before .before .before .before .before .before .pre .1)) (c .before .before .before .before .before .before .before .before .before .before .before .act .ensures)
-    (omega (arith, fit, w .room)) (c .before .before .put-answer .ensures) refl refl
+    let put = c .before .before in
+    let acted = put .before .before .before .before .before .before .before .before .before in
+    let read = judged (acted .before) in
+    let first = start read in
+    let a = first .args in
+    let w = lentWell-true _ _ _ _ _ (first .pre .0) in
+    let fit = line-fits (held first) (a .session) (lent first) (a .report .now) (a .number) (w .most) in
+    let deed = deed-read (held first) (a .list .now) _ _ (a .session) (lent first) (length (a .report .now))
+    (read .judge-held .ensures) (first .pre .1) in
+    enters-of (a .number) (a .report .now) (a .answer .now) deed (acted .act .ensures) (omega (arith, fit, w .room))
+    (put .put-answer .ensures) refl refl
 
 pub answer-line-spec : {M : Type 1} → statement M
 answer-line-spec =

@@ -1,3 +1,4 @@
+-- `line_entry::enter` meets its contract: the reply to a whole buffer is the entry of what it holds. Assumes nothing.
 use Rattle.line_entry.proofs.LineLaws.{replied-whole}
 use borrow.Author.Needs.{needs}
 use Rattle.line_entry.proofs.enter.Statement.{statement}
@@ -19,7 +20,9 @@ same-length-4 : tie.Need-same-length-4
 same-length-4 c = search needs
 
 returns : tie.Need-returns
-returns c = replied-whole _ _ _ _ _ _ (c .before .before .before .before .before .before .before .before .reply .ensures)
+returns c =
+    let replied = c .before .before .before .before .before .before .before .before in
+    replied-whole _ _ _ _ _ _ (replied .reply .ensures)
 
 pub enter-spec : {M : Type 1} → statement M
 enter-spec =

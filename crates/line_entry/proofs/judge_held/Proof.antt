@@ -1,3 +1,5 @@
+-- `line_entry::judge_held` meets its contract: a line that is too long has one form, and any other is there, whole.
+-- Assumes nothing.
 use Rattle.text_forms.proofs.JudgingLaws.{judged-long}
 use Rattle.line_entry.specs.Lines.{heldLine}
 use Rattle.line_entry.proofs.LineLaws.{heldLine-long, judged-held}
@@ -10,7 +12,10 @@ cast-t6 : tie.Need-cast-t6
 cast-t6 c = search needs
 
 returns : tie.Need-returns
-returns c = judged-long (heldLine (c .before .before .before .args .line .now) (c .before .before .before .args .have)) (c .before .before .before .args .list .now) (heldLine-long (c .before .before .before .args .line .now) (c .before .before .before .args .have) (c .if1 .taken))
+returns c =
+    let a = c .before .before .before .args in
+    let long = heldLine-long (a .line .now) (a .have) (c .if1 .taken) in
+    judged-long (heldLine (a .line .now) (a .have)) (a .list .now) long
 
 sub-judge : tie.Need-sub-judge
 sub-judge c = search needs
@@ -28,7 +33,11 @@ same-length : tie.Need-same-length
 same-length c = search needs
 
 returns-2 : tie.Need-returns-2
-returns-2 c = judged-held (c .before .before .before .before .before .before .before .before .args .line .now) (c .before .before .before .before .before .before .before .before .args .have) (omega (arith, c .before .before .before .before .before .if1 .left)) (c .before .before .judge .ensures)
+returns-2 c =
+    let read = c .before .before in
+    let fits = read .before .before .before in
+    let a = fits .before .before .before .args in
+    judged-held (a .line .now) (a .have) (omega (arith, fits .if1 .left)) (read .judge .ensures)
 
 pub judge-held-spec : {M : Type 1} → statement M
 judge-held-spec =

@@ -1,3 +1,4 @@
+-- `line_entry::lent_well` meets its contract: its tests are those of `lentWell`. Assumes nothing.
 use Rattle.line_entry.specs.Lines.{lentWell}
 use borrow.Author.Needs.{needs}
 use Rattle.line_entry.proofs.lent_well.Statement.{statement}

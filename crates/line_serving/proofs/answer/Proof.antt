@@ -1,3 +1,4 @@
+-- `line_serving::answer` meets its contract: what was entered is what was answered. Assumes nothing.
 use mathlib.Core.Path.{refl}
 use Rattle.line_serving.proofs.ServingLaws.{serves-entered}
 use borrow.Author.Needs.{needs}
@@ -20,7 +21,11 @@ same-length-4 : tie.Need-same-length-4
 same-length-4 c = search needs
 
 returns : tie.Need-returns
-returns c = serves-entered (c .before .before .before .before .before .before .before .before .before .before .before .before .before .before .before .before .before .before .args .line .now) (c .before .before .before .before .before .before .before .before .before .before .before .before .before .before .before .before .before .before .args .number) (c .before .before .before .before .before .before .before .before .before .before .before .before .before .before .before .before .before .before .args .next) (c .before .before .before .before .before .before .before .before .reply .ensures) refl refl refl refl refl refl
+returns c =
+    let replied = c .before .before .before .before .before .before .before .before in
+    let start = replied .before .before .before .before .before .before .before .before .before .before in
+    let a = start .args in
+    serves-entered (a .line .now) (a .number) (a .next) (replied .reply .ensures) refl refl refl refl refl refl
 
 pub answer-spec : {M : Type 1} → statement M
 answer-spec =

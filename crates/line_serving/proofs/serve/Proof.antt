@@ -1,9 +1,23 @@
+-- `line_serving::serve` meets its contract: each way out is one law of `turnOf`. Assumes nothing.
 use mathlib.Core.Path.{refl, sym, _∙_}
-use Rattle.rules.specs.Tables.{tables}
+use Rattle.rules.specs.Tables.{Tables, tables}
 use Rattle.line_serving.proofs.ServingLaws.{turn-full, turn-more, serves-line}
 use borrow.Author.Needs.{needs}
 use Rattle.line_serving.proofs.serve.Statement.{statement}
 use Rattle.line_serving.proofs.serve.Tie as tie
+
+-- the places that the needs speak of
+abbrev start : tie.After-number-after → tie.Start
+start c = c .before .before .before .before .before .before .before
+
+abbrev lent : tie.Start → Tables
+lent c = tables (c .args .tasks .now) (c .args .promises .now)
+
+abbrev numbered : tie.After-after → tie.After-number-after
+numbered c = c .before .before
+
+abbrev line : tie.After-gather → tie.After-after
+line c = c .before .before .before
 
 number-after-requires : tie.Need-number-after-requires
 number-after-requires c κs = search needs
@@ -48,19 +62,66 @@ same-length-5 : tie.Need-same-length-5
 same-length-5 c = search needs
 
 returns : tie.Need-returns
-returns c = serves-line (c .before .before .before .before .before .before .before .before .before .before .before .before .before .before .before .before .before .before .before .before .before .before .before .before .before .before .before .before .before .before .before .args .block .now) (c .before .before .before .before .before .before .before .before .before .before .before .before .before .before .before .before .before .before .before .before .before .before .before .before .before .before .before .before .before .before .before .args .from) (c .before .before .before .before .before .before .before .before .before .before .before .before .before .before .before .before .before .before .before .before .before .before .before .before .before .before .before .before .before .before .before .args .line .now) (c .before .before .before .before .before .before .before .before .before .before .before .before .before .before .before .before .before .before .before .before .before .before .before .before .before .before .before .before .before .before .before .args .have) (c .before .before .before .before .before .before .before .before .before .before .before .before .before .before .before .before .before .before .before .before .before .before .before .before .before .before .before .before .before .before .before .args .lines) (c .before .before .before .before .before .before .before .before .before .before .before .before .before .before .before .before .before .before .before .before .before .before .before .before .before .before .before .before .before .before .before .args .session) (tables (c .before .before .before .before .before .before .before .before .before .before .before .before .before .before .before .before .before .before .before .before .before .before .before .before .before .before .before .before .before .before .before .args .tasks .now) (c .before .before .before .before .before .before .before .before .before .before .before .before .before .before .before .before .before .before .before .before .before .before .before .before .before .before .before .before .before .before .before .args .promises .now)) (c .before .before .before .before .before .before .before .before .before .before .before .before .before .before .before .before .before .before .before .before .before .before .before .before .before .before .before .before .before .before .before .args .report .now) (c .before .before .before .before .before .before .before .before .before .before .before .before .before .before .before .before .before .before .before .before .before .before .before .before .before .before .before .before .before .before .before .args .out .now) _ (sym (c .before .before .before .before .before .before .before .before .before .before .before .before .before .before .before .before .before .before .before .before .before .before .before .before .number-after .ensures) ∙ c .before .before .before .before .before .before .before .before .before .before .before .before .before .before .before .before .before .before .before .before .before .before .after .given .1) (c .before .before .before .before .before .before .before .before .before .before .before .before .before .before .before .before .before .before .before .gather .ensures) (c .before .before .before .before .before .before .before .before .before .before .before .before .before .before .before .got .given .1) (c .before .before .before .before .before .before .before .before .answer .ensures)
+returns c =
+    let answered = c .before .before .before .before .before .before .before .before in
+    let got = answered .before .before .before .before .before .before .before in
+    let gathered = got .before .before .before .before in
+    let asked = numbered (line gathered) in
+    let a = start asked .args in
+    serves-line (a .block .now) (a .from) (a .line .now) (a .have) (a .lines) (a .session) (lent (start asked))
+    (a .report .now) (a .out .now) _ (sym (asked .number-after .ensures) ∙ line gathered .after .given .1)
+    (gathered .gather .ensures) (got .got .given .1) (answered .answer .ensures)
 
 same-length-6 : tie.Need-same-length-6
 same-length-6 c = search needs
 
 returns-2 : tie.Need-returns-2
-returns-2 c = rw (turn-more (c .before .before .before .before .before .before .before .before .before .before .before .before .before .before .before .before .before .args .block .now) (c .before .before .before .before .before .before .before .before .before .before .before .before .before .before .before .before .before .args .from) (c .before .before .before .before .before .before .before .before .before .before .before .before .before .before .before .before .before .args .line .now) (c .before .before .before .before .before .before .before .before .before .before .before .before .before .before .before .before .before .args .have) (c .before .before .before .before .before .before .before .before .before .before .before .before .before .before .before .before .before .args .lines) (c .before .before .before .before .before .before .before .before .before .before .before .before .before .before .before .before .before .args .session) (tables (c .before .before .before .before .before .before .before .before .before .before .before .before .before .before .before .before .before .args .tasks .now) (c .before .before .before .before .before .before .before .before .before .before .before .before .before .before .before .before .before .args .promises .now)) (c .before .before .before .before .before .before .before .before .before .before .before .before .before .before .before .before .before .args .report .now) (c .before .before .before .before .before .before .before .before .before .before .before .before .before .before .before .before .before .args .out .now) _ (sym (c .before .before .before .before .before .before .before .before .before .before .number-after .ensures) ∙ c .before .before .before .before .before .before .before .before .after .given .1) _ (sym (c .before .before .before .before .before .gather .ensures .answer) ∙ c .before .got2 .given .1)) (record { next = refl; have = refl; lines = refl; session = refl; bytes = refl; going = refl; line = c .before .before .before .before .before .gather .ensures .bytes; after = refl; report = refl; answer = refl })
+returns-2 c =
+    let got = c .before in
+    let gathered = got .before .before .before .before in
+    let asked = numbered (line gathered) in
+    let a = start asked .args in
+    let w = gathered .gather .ensures in
+    rw (turn-more (a .block .now) (a .from) (a .line .now) (a .have) (a .lines) (a .session) (lent (start asked))
+    (a .report .now) (a .out .now) _ (sym (asked .number-after .ensures) ∙ line gathered .after .given .1) _
+    (sym (w .answer) ∙ got .got2 .given .1))
+    (record {
+      next = refl;
+      have = refl;
+      lines = refl;
+      session = refl;
+      bytes = refl;
+      going = refl;
+      line = w .bytes;
+      after = refl;
+      report = refl;
+      answer = refl;
+    })
 
 same-length-7 : tie.Need-same-length-7
 same-length-7 c = search needs
 
 returns-3 : tie.Need-returns-3
-returns-3 c = rw (turn-full (c .before .before .before .before .before .before .before .before .before .before .before .before .before .before .args .block .now) (c .before .before .before .before .before .before .before .before .before .before .before .before .before .before .args .from) (c .before .before .before .before .before .before .before .before .before .before .before .before .before .before .args .line .now) (c .before .before .before .before .before .before .before .before .before .before .before .before .before .before .args .have) (c .before .before .before .before .before .before .before .before .before .before .before .before .before .before .args .lines) (c .before .before .before .before .before .before .before .before .before .before .before .before .before .before .args .session) (tables (c .before .before .before .before .before .before .before .before .before .before .before .before .before .before .args .tasks .now) (c .before .before .before .before .before .before .before .before .before .before .before .before .before .before .args .promises .now)) (c .before .before .before .before .before .before .before .before .before .before .before .before .before .before .args .report .now) (c .before .before .before .before .before .before .before .before .before .before .before .before .before .before .args .out .now) (sym (c .before .before .before .before .before .before .before .number-after .ensures) ∙ c .before .before .before .before .before .enum-told .given .1)) (record { next = refl; have = refl; lines = refl; session = refl; bytes = c .before .before .put-bytes .ensures .count; going = refl; line = refl; after = refl; report = refl; answer = c .before .before .put-bytes .ensures .text })
+returns-3 c =
+    let put = c .before .before in
+    let told = put .before .before .before in
+    let asked = told .before .before in
+    let a = start asked .args in
+    let w = put .put-bytes .ensures in
+    rw (turn-full (a .block .now) (a .from) (a .line .now) (a .have) (a .lines) (a .session) (lent (start asked))
+    (a .report .now) (a .out .now) (sym (asked .number-after .ensures) ∙ told .enum-told .given .1))
+    (record {
+      next = refl;
+      have = refl;
+      lines = refl;
+      session = refl;
+      bytes = w .count;
+      going = refl;
+      line = refl;
+      after = refl;
+      report = refl;
+      answer = w .text;
+    })
 
 pub serve-spec : {M : Type 1} → statement M
 serve-spec =

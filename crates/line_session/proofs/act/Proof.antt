@@ -1,3 +1,4 @@
+-- `line_session::act` meets its contract: the session value says which of its parts does the whole. Assumes nothing.
 use mathlib.Core.Path.{refl}
 use Rattle.line_session.proofs.SessionLaws.{inSession-open, does-unopened, does-open}
 use native.Mathlib.Omega.{arith}

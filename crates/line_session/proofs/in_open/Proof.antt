@@ -1,3 +1,4 @@
+-- `line_session::in_open` meets its contract: each form of a line is one case of `openOutcome`. Assumes nothing.
 use mathlib.Core.Path.{refl, sym}
 use native.Mathlib.Nat.{sub-zero}
 use Rattle.words.proofs.ListLaws.{over-none}
@@ -6,6 +7,10 @@ use Rattle.line_session.specs.Sessions.{openOutcome}
 use borrow.Author.Needs.{needs}
 use Rattle.line_session.proofs.in_open.Statement.{statement}
 use Rattle.line_session.proofs.in_open.Tie as tie
+
+-- the place that the needs speak of
+abbrev formed : tie.After-step-arg3 → tie.After-form
+formed c = c .before .before .before .before
 
 enum-told : tie.Need-enum-told
 enum-told c = search needs
@@ -21,7 +26,10 @@ part-step-start c = search needs
 
 part-step-end : tie.Need-part-step-end
 unfolding entryCount
-part-step-end c = rw (c .before .before .before .before .form .given .1) at (c .before .before .before .before .before .before .before .before .before .before .pre)
+part-step-end c =
+    let formed = c .before .before .before .before in
+    let start = formed .before .before .before .before .before .before in
+    rw (formed .form .given .1) at (start .pre)
 
 step-requires : tie.Need-step-requires
 step-requires c κs = search needs
@@ -47,11 +55,15 @@ same-length-3 c = search needs
 
 returns-2 : tie.Need-returns-2
 unfolding openOutcome entryCount
-returns-2 c = rw (c .before .before .before .before .before .before .before .before .before .before .before .before .form .given .1) (rw sub-zero at (c .before .before .before .before .before .before .step .ensures))
+returns-2 c =
+    let stepped = c .before .before .before .before .before .before in
+    rw (formed (stepped .before .before) .form .given .1) (rw sub-zero at (stepped .step .ensures))
 
 returns-3 : tie.Need-returns-3
 unfolding openOutcome
-returns-3 c = rw (c .before .before .form2 .given .1) (record { answer = c .refused-at-column .ensures; after = refl; report = sym (over-none _) })
+returns-3 c =
+    rw (c .before .before .form2 .given .1)
+    (record { answer = c .refused-at-column .ensures; after = refl; report = sym (over-none _) })
 
 pub in-open-spec : {M : Type 1} → statement M
 in-open-spec =

@@ -1,3 +1,5 @@
+-- `line_session::in_part` meets its contract: what was done to the parts that were lent was done to the first words of
+-- the tables. Assumes nothing.
 use native.Mathlib.Nat.{sub-zero}
 use Rattle.rules.specs.Tables.{Tables, tables}
 use Rattle.line_session.proofs.SessionLaws.{inPart-of}
@@ -46,7 +48,9 @@ returns : tie.Need-returns
 returns c =
     let done = c .before .before .before .before .before .before in
     let a = start (done .before) .args in
-    rw (sub-zero (a .t), sub-zero (a .p)) (inPart-of (a .t) (a .p) (lent (start (done .before))) (rw (sub-zero (a .t), sub-zero (a .p)) at (done .in-open .ensures)))
+    rw (sub-zero (a .t), sub-zero (a .p))
+    (inPart-of (a .t) (a .p) (lent (start (done .before)))
+    (rw (sub-zero (a .t), sub-zero (a .p)) at (done .in-open .ensures)))
 
 pub in-part-spec : {M : Type 1} → statement M
 in-part-spec =

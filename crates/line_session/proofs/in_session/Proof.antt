@@ -1,3 +1,4 @@
+-- `line_session::in_session` meets its contract: each session value is one case of `inSession`. Assumes nothing.
 use Rattle.line_session.specs.Sessions.{inSession}
 use borrow.Author.Needs.{needs}
 use Rattle.line_session.proofs.in_session.Statement.{statement}

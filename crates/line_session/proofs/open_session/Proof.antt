@@ -1,3 +1,5 @@
+-- `line_session::open_session` meets its contract: where the sizes are not refused, the parts are within the lent
+-- tables and are made fresh. Assumes nothing.
 use mathlib.Core.Path.{refl, sym, _∙_}
 use Prim.Native.Nat.{_≤_}
 use lib.ListN.{length}
@@ -18,9 +20,11 @@ start c = c .before .before .before .before
 abbrev lent : tie.Start → Tables
 lent c = tables (c .args .tasks .now) (c .args .promises .now)
 
-fits : (c : tie.Else1) → (start c .args .t ≤ length (start c .args .tasks .now)) × (start c .args .p ≤ length (start c .args .promises .now))
+fits : (c : tie.Else1) → let a = start c .args in
+    (a .t ≤ length (a .tasks .now)) × (a .p ≤ length (a .promises .now))
 fits c =
-    let h = freshRefusal-none (start c .args .t) (start c .args .p) (sym (c .before .fresh-refusal .ensures) ∙ c .if1 .left) in
+    let a = start c .args in
+    let h = freshRefusal-none (a .t) (a .p) (sym (c .before .fresh-refusal .ensures) ∙ c .if1 .left) in
     (omega (arith, h .0, start c .pre .0), omega (arith, h .1, start c .pre .1))
 
 fresh-refusal-requires : tie.Need-fresh-refusal-requires

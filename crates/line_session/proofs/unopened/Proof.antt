@@ -1,3 +1,4 @@
+-- `line_session::unopened` meets its contract: each form of a line is one case of `unopenedDeed`. Assumes nothing.
 use mathlib.Core.Path.{_∙_}
 use Rattle.rules.specs.declared.Answer.the-variants.{Refused}
 use Rattle.line_session.specs.declared.Session.the-variants.{Unopened}
@@ -36,15 +37,24 @@ same-length-2 c = search needs
 
 returns : tie.Need-returns
 unfolding unopenedDeed
-returns c = rw (c .before .before .before .before .before .before .before .before .form .given .1) (c .before .before .before .before .open-session .ensures)
+returns c =
+    let done = c .before .before .before .before in
+    let formed = done .before .before .before .before in
+    rw (formed .form .given .1) (done .open-session .ensures)
 
 returns-2 : tie.Need-returns-2
 unfolding unopenedDeed
-returns-2 c = does-refused _ Unopened (Refused 15) (rw (c .before .enum-told .given .1)) (c .refused-unopened .ensures .0) (c .refused-unopened .ensures .1)
+returns-2 c =
+    let e = c .refused-unopened .ensures in
+    does-refused _ Unopened (Refused 15) (rw (c .before .enum-told .given .1)) (e .0) (e .1)
 
 returns-3 : tie.Need-returns-3
 unfolding unopenedDeed
-returns-3 c = does-refused _ Unopened (refusedAtColumn _) (rw (c .before .before .before .form2 .given .1)) (c .refused-unopened2 .ensures .0 ∙ c .before .refused-at-column .ensures) (c .refused-unopened2 .ensures .1)
+returns-3 c =
+    let told = c .before in
+    let e = c .refused-unopened2 .ensures in
+    does-refused _ Unopened (refusedAtColumn _) (rw (told .before .before .form2 .given .1))
+    (e .0 ∙ told .refused-at-column .ensures) (e .1)
 
 pub unopened-spec : {M : Type 1} → statement M
 unopened-spec =
