@@ -62,13 +62,30 @@ fn start() -> Ran
     }
 }
 
-// Puts out the answers that wait: this is the one place that writes.
+// How many bytes were handed to write, and whether the output took all of them.
+pub struct Handed {
+    pub bytes: usize,
+    pub taken: bool,
+}
+
+// Hands bytes to write: this is the one place that writes.
+fn hand_over(bytes: &[u8]) -> Handed
+    ensures { λ r. ⌜ r .bytes ≡ length (now (bytes .entry)) ⌝ }
+{
+    let taken = io::write_all(1, bytes);
+    Handed {
+        bytes: bytes.len(),
+        taken,
+    }
+}
+
+// Puts out the answers that wait.
 fn put_out(out: &[u8], s: State) -> State
     requires { ⌜ s .used ≤ length (now out) ⌝ }
     ensures { λ r. ⌜ PutOut s r ⌝ }
 {
     let used = s.used;
-    let taken = io::write_all(1, &out[0..used]);
+    let handed = hand_over(&out[0..used]);
     let session = s.session;
     State {
         from: s.from,
@@ -76,9 +93,9 @@ fn put_out(out: &[u8], s: State) -> State
         lines: s.lines,
         session,
         used: 0,
-        put: std::num::wrapping_add_u64(s.put, used as u64),
+        put: std::num::wrapping_add_u64(s.put, handed.bytes as u64),
         going: s.going,
-        open: s.open & taken,
+        open: s.open & handed.taken,
     }
 }
 

@@ -1,7 +1,8 @@
 //! Answers to what has arrived are written before the next read blocks.
 
+use crate::blocks;
 use crate::program::{ended_well, Program};
-use model::LINE_BYTES;
+use model::{Model, LINE_BYTES};
 use std::io::{Read, Write};
 use std::process::{Child, ChildStdin, Stdio};
 use std::sync::mpsc::{self, Receiver, RecvTimeoutError};
@@ -11,6 +12,10 @@ use std::time::{Duration, Instant};
 const PATIENCE: Duration = Duration::from_secs(20);
 /// How long to look whether something comes that should not.
 const SILENCE: Duration = Duration::from_millis(150);
+
+/// How many lines are awaited one by one at least, and how many bytes they have.
+const AWAITED_LINES: usize = 70_000;
+const AWAITED_BYTES: usize = 710_000;
 
 /// A running program whose input stays open.
 struct Held {
@@ -44,7 +49,10 @@ impl Held {
 
     /// The next bytes of output must be these, and must come while the input stays open.
     fn expect(&mut self, expected: &str) -> Result<(), String> {
-        let expected = expected.replace(' ', "\t").into_bytes();
+        self.expect_bytes(expected.replace(' ', "\t").as_bytes())
+    }
+
+    fn expect_bytes(&mut self, expected: &[u8]) -> Result<(), String> {
         let start = Instant::now();
         while self.unread.len() < expected.len() {
             let left = PATIENCE.saturating_sub(start.elapsed());
@@ -94,6 +102,7 @@ pub fn check_all(program: &Program) -> Vec<(&'static str, Result<(), String>)> {
         ("one line at a time", one_at_a_time(program)),
         ("lines with the start of the next", parts_of_lines(program)),
         ("bad lines in two parts", parts_of_bad_lines(program)),
+        ("each answer awaited", awaited(program)),
         ("full at the first byte of the millionth line", full(program)),
     ]
 }
@@ -120,6 +129,26 @@ fn one_at_a_time(program: &Program) -> Result<(), String> {
     held.write(b"\n")?;
     held.expect("12 refused 14 2048\n")?;
     held.close_input();
+    held.expect_end()
+}
+
+/// A partner who waits for each answer before the next line: the program reads once for each of them.
+fn awaited(program: &Program) -> Result<(), String> {
+    let trace = blocks::steps(AWAITED_BYTES);
+    let answers = Model::PAPER.bench(&trace);
+    let mut held = Held::start(program);
+    let mut lines = 0;
+    for (line, answer) in trace.split_inclusive(|&byte| byte == b'\n').zip(answers.split_inclusive(|&byte| byte == b'\n')) {
+        held.write(line)?;
+        if !line.ends_with(b"\n") {
+            held.close_input();
+        }
+        held.expect_bytes(answer).map_err(|problem| format!("after {lines} lines: {problem}"))?;
+        lines += 1;
+    }
+    if lines < AWAITED_LINES {
+        return Err(format!("only {lines} lines were sent"));
+    }
     held.expect_end()
 }
 

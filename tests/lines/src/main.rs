@@ -7,6 +7,7 @@
 //! `lines --trace SEED`              one random trace, by the seed that a difference names
 //! `lines --small`                   few traces, under valgrind
 
+mod blocks;
 mod feed;
 mod held_open;
 mod program;
@@ -76,6 +77,11 @@ fn main() {
         };
         for &feed in feeds {
             check.compare(&format!("sweep {index} ({name})"), trace, feed);
+        }
+    }
+    for (name, trace) in blocks::traces() {
+        for &feed in if small { &[][..] } else { &[Feed::Whole, Feed::Pieces, Feed::File][..] } {
+            check.compare(&format!("blocks ({name})"), &trace, feed);
         }
     }
     for index in 0..if small { SMALL_TRACES } else { number_after("--traces").unwrap_or(USUAL_TRACES) } {

@@ -1,45 +1,53 @@
--- `put_out` meets its contract: what waits is the part of the output array that is written, and its bytes are counted.
--- Assumes nothing.
-use mathlib.Core.Path.{refl}
+-- `put_out` meets its contract: what waits is the part of the output array that is handed over, and its bytes are
+-- counted. Assumes nothing.
+use mathlib.Core.Path.{_≡_, refl, ap, _∙_}
+use Prim.Native.Nat.{ℕ, _+_}
+use native.Mathlib.Nat.{sub-zero}
+use lib.Seq.{length-take-le}
 use Rattle.words.proofs.BoolLaws.{and-split}
+use Rattle.bench.specs.Carrying.{counted}
 use borrow.Author.Needs.{needs}
 use Rattle.bench.proofs.put_out.Statement.{statement}
 use Rattle.bench.proofs.put_out.Tie as tie
 
-sub-write-all : tie.Need-sub-write-all
-sub-write-all c = search needs
+sub-hand-over : tie.Need-sub-hand-over
+sub-hand-over c = search needs
 
-part-write-all-start : tie.Need-part-write-all-start
-part-write-all-start c = search needs
+part-hand-over-start : tie.Need-part-hand-over-start
+part-hand-over-start c = search needs
 
-part-write-all-end : tie.Need-part-write-all-end
-part-write-all-end c = search needs
+part-hand-over-end : tie.Need-part-hand-over-end
+part-hand-over-end c = search needs
 
-write-all-requires : tie.Need-write-all-requires
-write-all-requires c κs = search needs
+hand-over-requires : tie.Need-hand-over-requires
+hand-over-requires c κs = search needs
 
 wrapping-add-u64-requires : tie.Need-wrapping-add-u64-requires
 wrapping-add-u64-requires c κs = search needs
 
 returns : tie.Need-returns
 returns c =
-    let added = c .before in
-    let written = added .before in
-    let s = written .before .before .before .args .s in (
+    let added = c .before .before in
+    let handed = added .before in
+    let start = handed .before .before .before in
+    let s = start .args .s in
+    let o = start .args .out .now in
+    let all : handed .hand-over .result .bytes ≡ s .used =
+    handed .hand-over .ensures ∙ rw sub-zero (length-take-le (s .used) o (start .pre)) in (
       refl,
       (refl, refl, refl, refl),
       refl,
-      added .wrapping-add-u64 .ensures,
-      λ g. and-split (s .open) (written .write-all .result) g .0,
+      added .wrapping-add-u64 .ensures ∙ ap (λ (n : ℕ). counted (s .put + n)) all,
+      λ g. and-split (s .open) (handed .hand-over .result .taken) g .0,
     )
 
 pub put-out-spec : {M : Type 1} → statement M
 put-out-spec =
     tie.close
     (tie.spec
-    sub-write-all
-    part-write-all-start
-    part-write-all-end
-    write-all-requires
+    sub-hand-over
+    part-hand-over-start
+    part-hand-over-end
+    hand-over-requires
     wrapping-add-u64-requires
     returns)
