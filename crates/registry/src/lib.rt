@@ -3,11 +3,8 @@
 // the answer's values, 0 where it has none. A batch takes its records as five words each, and returns the refusal of
 // the call, or 0.
 use answer_words::tell;
-use steps::step_async;
-use steps::step_end;
-use steps::step_get;
-use steps::step_new;
-use steps::step_set;
+use step_kinds::Kind;
+use steps::step;
 ghost use mathlib.Core.Path.{_≡_};
 ghost use lib.ListN.{length};
 ghost use Rattle.words.specs.Words.{small};
@@ -15,6 +12,7 @@ ghost use Rattle.rules.specs.Tables.{tables as tablesOf};
 ghost use Rattle.rules.specs.Sound.{isSound};
 ghost use Rattle.rules.specs.Steps.{step-new, step-set, step-get, step-async, step-end};
 ghost use Rattle.rules.specs.Contracts.{Freshens};
+ghost use Rattle.steps.specs.Named.{stepBy};
 ghost use Rattle.batch_words.specs.Flat.{flatly, Flats};
 ghost use Rattle.registry.specs.Exports.{ExportsStep};
 
@@ -35,6 +33,28 @@ pub extern "C" fn registry_fresh(tasks: &mut [u16], promises: &mut [u16]) -> u16
     table_fresh::fresh(tasks, promises)
 }
 
+// A step of the kind, its answer told in `answer`; refused by 1 if that has fewer than four words.
+fn step_told(
+    tasks: &mut [u16],
+    promises: &mut [u16],
+    report: &mut [u16],
+    kind: Kind,
+    t: u16,
+    p: u16,
+    list: &[u16],
+    answer: &mut [u16],
+) -> u16
+    ensures { λ r. ⌜ ExportsStep (stepBy kind t p (now (list .entry)))
+        (tablesOf (now (tasks .entry)) (now (promises .entry)))
+        (now (report .entry)) (now (answer .entry))
+        r (tablesOf (now (tasks .exit)) (now (promises .exit))) (now (report .exit)) (now (answer .exit)) ⌝ }
+{
+    if answer.len() < 4 {
+        return 1;
+    }
+    tell(answer, step(tasks, promises, report, kind, t, p, list))
+}
+
 #[no_mangle]
 pub extern "C" fn registry_step_new(
     tasks: &mut [u16],
@@ -48,10 +68,7 @@ pub extern "C" fn registry_step_new(
         (now (report .entry)) (now (answer .entry))
         r (tablesOf (now (tasks .exit)) (now (promises .exit))) (now (report .exit)) (now (answer .exit)) ⌝ }
 {
-    if answer.len() < 4 {
-        return 1;
-    }
-    tell(answer, step_new(tasks, promises, report, t, p))
+    step_told(tasks, promises, report, Kind::New, t, p, &[], answer)
 }
 
 #[no_mangle]
@@ -67,10 +84,7 @@ pub extern "C" fn registry_step_set(
         (now (report .entry)) (now (answer .entry))
         r (tablesOf (now (tasks .exit)) (now (promises .exit))) (now (report .exit)) (now (answer .exit)) ⌝ }
 {
-    if answer.len() < 4 {
-        return 1;
-    }
-    tell(answer, step_set(tasks, promises, report, t, p))
+    step_told(tasks, promises, report, Kind::Set, t, p, &[], answer)
 }
 
 #[no_mangle]
@@ -86,10 +100,7 @@ pub extern "C" fn registry_step_get(
         (now (report .entry)) (now (answer .entry))
         r (tablesOf (now (tasks .exit)) (now (promises .exit))) (now (report .exit)) (now (answer .exit)) ⌝ }
 {
-    if answer.len() < 4 {
-        return 1;
-    }
-    tell(answer, step_get(tasks, promises, report, t, p))
+    step_told(tasks, promises, report, Kind::Get, t, p, &[], answer)
 }
 
 #[no_mangle]
@@ -107,10 +118,7 @@ pub extern "C" fn registry_step_async(
         (now (report .entry)) (now (answer .entry))
         r (tablesOf (now (tasks .exit)) (now (promises .exit))) (now (report .exit)) (now (answer .exit)) ⌝ }
 {
-    if answer.len() < 4 {
-        return 1;
-    }
-    tell(answer, step_async(tasks, promises, report, t, c, list))
+    step_told(tasks, promises, report, Kind::Async, t, c, list, answer)
 }
 
 #[no_mangle]
@@ -125,10 +133,7 @@ pub extern "C" fn registry_step_end(
         (now (report .entry)) (now (answer .entry))
         r (tablesOf (now (tasks .exit)) (now (promises .exit))) (now (report .exit)) (now (answer .exit)) ⌝ }
 {
-    if answer.len() < 4 {
-        return 1;
-    }
-    tell(answer, step_end(tasks, promises, report, t))
+    step_told(tasks, promises, report, Kind::End, t, 0, &[], answer)
 }
 
 #[no_mangle]

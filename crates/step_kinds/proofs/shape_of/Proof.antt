@@ -1,3 +1,4 @@
+-- `step_kinds::shape_of` meets its contract: each arm is the line of `shapeOf` for its kind. Assumes nothing.
 use Rattle.step_kinds.specs.Kinds.{shapeOf}
 use borrow.Author.Needs.{needs}
 use Rattle.step_kinds.proofs.shape_of.Statement.{statement}

@@ -1,3 +1,4 @@
+-- `step_kinds::takes_list` meets its contract: the shape decides. Assumes nothing.
 use Rattle.step_kinds.specs.Kinds.{takesList}
 use borrow.Author.Needs.{needs}
 use Rattle.step_kinds.proofs.takes_list.Statement.{statement}
