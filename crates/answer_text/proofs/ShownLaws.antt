@@ -1,6 +1,7 @@
--- Laws of `fieldsOf` for what an answer shows of the report: with enough words written at the report's start, the fields are the same as
--- from these words alone, whatever the report held before; there are at most four more of them than words; and they are as ofLines as the
--- answer's own numbers and the words are. Assumes nothing.
+-- Laws of `fieldsOf` for what an answer shows of the report: with enough words written at the report's start, the
+-- fields are the same as from these words alone, whatever the report held before; there are at most four more of them
+-- than words; and they are as ofLines as the answer's own numbers and the words are.
+-- Assumes nothing.
 use Prim.Native.Nat.{ℕ, zero, suc, _+_, _-_, _≤_, min}
 use mathlib.Core.List.{List, [], _∷_, _++_}
 use mathlib.Core.Bool.{Bool, true, false, cond}
@@ -25,25 +26,33 @@ part-append (suc from) n [] ys h = absurd (omega arith)
 part-append (suc from) n (x ∷ xs) ys h = part-append from n xs ys (omega arith)
 
 -- a part of the words that were written is theirs, and not the older report's
-pub part-over : (from n : ℕ) (ws rs : List ℕ) → from + n ≤ length ws → stretchOf (over ws rs) from n ≡ stretchOf ws from n
+pub part-over : (from n : ℕ) (ws rs : List ℕ) → from + n ≤ length ws
+    → stretchOf (over ws rs) from n ≡ stretchOf ws from n
 unfolding over
 part-over from n ws rs h = part-append from n ws (drop (length ws) rs) h
 
-shown-over : (p : Part) (ws rs : List ℕ) (from : ℕ) → from + p .words ≤ length ws → partShown p (over ws rs) from ≡ partShown p ws from
+shown-over : (p : Part) (ws rs : List ℕ) (from : ℕ) → from + p .words ≤ length ws
+    → partShown p (over ws rs) from ≡ partShown p ws from
 shown-over p ws rs from h = rw (part-over from (p .words) ws rs h)
 
 pub fieldsOf-over : (a : Answer) (ws rs : List ℕ) → wordCount a ≤ length ws → fieldsOf a (over ws rs) ≡ fieldsOf a ws
 unfolding fieldsIn
 fieldsOf-over a ws rs h =
     let l = laid a in
-    rw (shown-over (l .first) ws rs 0 (omega arith), shown-over (l .second) ws rs (l .first .words) (omega arith), shown-over (l .third) ws rs (l .first .words + l .second .words) (omega arith))
+    rw (
+      shown-over (l .first) ws rs 0 (omega arith),
+      shown-over (l .second) ws rs (l .first .words) (omega arith),
+      shown-over (l .third) ws rs (l .first .words + l .second .words) (omega arith),
+    )
 
 -- ---- how many fields there are
 
-shown-length : (p : Part) (ws : List ℕ) (from : ℕ) → length (partShown p ws from) ≤ 1 + min (p .words) (length ws - from)
+shown-length : (p : Part) (ws : List ℕ) (from : ℕ)
+    → length (partShown p ws from) ≤ 1 + min (p .words) (length ws - from)
 shown-length p ws from = go (p .told)
   where
-    go : (b : Bool) → length (cond b (p .value ∷ stretchOf ws from (p .words)) []) ≤ 1 + min (p .words) (length ws - from)
+    go : (b : Bool)
+        → length (cond b (p .value ∷ stretchOf ws from (p .words)) []) ≤ 1 + min (p .words) (length ws - from)
     go true = omega (arith, length-take (p .words) (drop from ws), length-drop from ws)
     go false = omega arith
 
@@ -56,7 +65,13 @@ unfolding fieldsIn
 fieldsOf-length a ws =
     let l = laid a in
     rw (length-append, length-append, length-append)
-    (omega (arith, number-length (l .refuses) (l .number), shown-length (l .first) ws 0, shown-length (l .second) ws (l .first .words), shown-length (l .third) ws (l .first .words + l .second .words)))
+    (omega (
+      arith,
+      number-length (l .refuses) (l .number),
+      shown-length (l .first) ws 0,
+      shown-length (l .second) ws (l .first .words),
+      shown-length (l .third) ws (l .first .words + l .second .words),
+    ))
 
 -- ---- how large they are
 
@@ -93,17 +108,20 @@ module _ (P : ℕ → Type 0) where
   shown-every : (p : Part) (from : ℕ) {ws : List ℕ} → Every P (valueIn p) → Every P ws → Every P (partShown p ws from)
   shown-every p from {ws} v w = go (p .told) v
     where
-      go : (b : Bool) → Every P (cond b (p .value ∷ []) []) → Every P (cond b (p .value ∷ stretchOf ws from (p .words)) [])
+      go : (b : Bool) → Every P (cond b (p .value ∷ []) [])
+          → Every P (cond b (p .value ∷ stretchOf ws from (p .words)) [])
       go true (one-more q u) = one-more q (every-part from (p .words) w)
       go false u = no-more
 
   -- what holds of the answer's number, its values and the words holds of the fields
-  pub fieldsOf-every : (a : Answer) (ws : List ℕ) → P (numberOf a) → Every P (valuesOf a) → Every P ws → Every P (fieldsOf a ws)
+  pub fieldsOf-every : (a : Answer) (ws : List ℕ) → P (numberOf a) → Every P (valuesOf a) → Every P ws
+      → Every P (fieldsOf a ws)
   unfolding fieldsIn
   fieldsOf-every a ws n v w =
       let l = laid a in
       let (both, third) = every-parted (valueIn (l .first) ++ valueIn (l .second)) v in
       let (first, second) = every-parted (valueIn (l .first)) both in
       every-append
-      (every-append (every-append (number-every (l .refuses) (l .number) n) (shown-every (l .first) 0 first w)) (shown-every (l .second) (l .first .words) second w))
+      (every-append (every-append (number-every (l .refuses) (l .number) n) (shown-every (l .first) 0 first w))
+      (shown-every (l .second) (l .first .words) second w))
       (shown-every (l .third) (l .first .words + l .second .words) third w)

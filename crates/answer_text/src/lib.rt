@@ -1,6 +1,6 @@
-// The text of an answer: its line number, its word and its fields, each written into the rest of the lent answer line from the line's
-// current end `at` on. Each `add_` writer answers the new end. A text without room is cut at the line's end; every answer
-// has room in 2,048 bytes (proofs/Fits.antt).
+// The text of an answer: its line number, its word and its fields, each written into the rest of the lent answer line
+// from the line's current end `at` on. Each `add_` writer answers the new end. A text without room is cut at the
+// line's end; every answer has room in 2,048 bytes (proofs/Fits.antt).
 use answer_words::layout;
 use rules::Answer;
 use rules::Layout;
@@ -8,7 +8,9 @@ use rules::Part;
 ghost use mathlib.Core.List.{[], _∷_};
 ghost use Rattle.text_buffers.specs.Buffers.{Wrote, Added};
 ghost use Rattle.text_writers.specs.Texts.{fieldsText, stretchOf};
-ghost use Rattle.answer_text.specs.AnswerText.{refusedText, openedText, madeText, setText, valueText, blamedText, waitsText, cycleText, startedText, endedText, wordFor, numberShown, partShown, fieldsIn, answerText};
+ghost use Rattle.answer_text.specs.AnswerText.{refusedText, openedText, madeText, setText, valueText};
+ghost use Rattle.answer_text.specs.AnswerText.{blamedText, waitsText, cycleText, startedText, endedText};
+ghost use Rattle.answer_text.specs.AnswerText.{wordFor, numberShown, partShown, fieldsIn, answerText};
 
 // The words of the answers.
 fn add_refused(out: &mut [u8], at: usize) -> usize
@@ -124,7 +126,8 @@ fn add_list(
     from: usize,
     words: usize,
 ) -> usize
-    ensures { λ r. ⌜ Added (fieldsText (count ∷ stretchOf (now (report .entry)) from words)) (now (out .entry)) at (now (out .exit)) r ⌝ }
+    ensures { λ r. ⌜ Added (fieldsText (count ∷ stretchOf (now (report .entry)) from words)) (now (out .entry)) at
+        (now (out .exit)) r ⌝ }
 {
     let e = add_field(out, at, count);
     text_writers::add_part(out, e, report, from, words)
@@ -132,7 +135,8 @@ fn add_list(
 
 // A value with its words, which stand in the report from `from` on; nothing, where there is no value.
 fn add_part(out: &mut [u8], at: usize, p: Part, report: &[u16], from: usize) -> usize
-    ensures { λ r. ⌜ Added (fieldsText (partShown p (now (report .entry)) from)) (now (out .entry)) at (now (out .exit)) r ⌝ }
+    ensures { λ r. ⌜ Added (fieldsText (partShown p (now (report .entry)) from)) (now (out .entry)) at
+        (now (out .exit)) r ⌝ }
 {
     if p.told {
         return add_list(out, at, p.value, report, from, p.words as usize);

@@ -1,5 +1,5 @@
--- What is promised of fields: the part that is handed back is the one between two tabs that starts at its place, there is only one
--- such part, and "no more fields" is told apart from an empty last field.
+-- What is promised of fields: the part that is handed back is the one between two tabs that starts at its place,
+-- there is only one such part, and "no more fields" is told apart from an empty last field.
 -- Assumes nothing.
 use Prim.Native.Nat.{ℕ, _+_, _≤_, _<_}
 use mathlib.Core.List.{List, [], _∷_, _++_}
@@ -10,14 +10,18 @@ use native.Mathlib.Decide.{decLt}
 use lib.ListN.{length, take, drop, length-drop, take-append-drop, drop-of-length-le}
 use lib.Seq.{drop-drop, drop-at, take-append-seam, length-take-le}
 use Rattle.text_fields.specs.Fields.{tab, runTo, endFrom, runToTab, fieldEnd, fieldAt, nextStart, Field}
-use Rattle.text_fields.proofs.FieldLaws.{runToTab-append, runToTab-firstField, runToTab-afterField, runToTab-none, fieldAt-length, fieldEnd-within, nextStart-is, nextStart-past}
+use Rattle.text_fields.proofs.FieldLaws.{runToTab-append, runToTab-firstField, runToTab-afterField}
+use Rattle.text_fields.proofs.FieldLaws.{runToTab-none, fieldAt-length, fieldEnd-within, nextStart-is}
+use Rattle.text_fields.proofs.FieldLaws.{nextStart-past}
 
 -- THE FIELD'S PLACE: from `at` up to its end, no tab within, a tab or the line's end after it
 pub field-placed : (s : List ℕ) (at : ℕ) → Field s at (fieldAt s at) (fieldEnd s at)
 unfolding fieldAt fieldEnd endFrom
 field-placed s at = record {
   place = sym (fieldAt-length s at);
-  whole = sym (take-append-drop at s) ∙ ap (λ (r : List ℕ). take at s ++ r) (sym (take-append-drop (runToTab (drop at s)) (drop at s)) ∙ ap (λ (r : List ℕ). take (runToTab (drop at s)) (drop at s) ++ r) (drop-drop (runToTab (drop at s)) at s));
+  whole = sym (take-append-drop at s)
+      ∙ ap (λ (r : List ℕ). take at s ++ r) (sym (take-append-drop (runToTab (drop at s)) (drop at s))
+      ∙ ap (λ (r : List ℕ). take (runToTab (drop at s)) (drop at s) ++ r) (drop-drop (runToTab (drop at s)) at s));
   no-tab = runToTab-firstField (drop at s);
   after = ends (decLt (fieldEnd s at) (length s));
 }
@@ -25,7 +29,8 @@ field-placed s at = record {
     z : runToTab (drop (at + runToTab (drop at s)) s) ≡ 0
     z = ap runToTab (sym (drop-drop (runToTab (drop at s)) at s)) ∙ runToTab-afterField (drop at s)
 
-    ends : Dec (fieldEnd s at < length s) → (drop (fieldEnd s at) s ≡ []) ⊎ (drop (fieldEnd s at) s ≡ tab ∷ drop (fieldEnd s at + 1) s)
+    ends : Dec (fieldEnd s at < length s)
+        → (drop (fieldEnd s at) s ≡ []) ⊎ (drop (fieldEnd s at) s ≡ tab ∷ drop (fieldEnd s at + 1) s)
     ends (no h) = inl (drop-of-length-le s {i = fieldEnd s at} (omega arith))
     ends (yes h) =
         let (x, p) = runToTab-none (drop (fieldEnd s at) s) z (omega (arith, length-drop (fieldEnd s at) s)) in
@@ -37,10 +42,12 @@ unfolding runTo
 no-run (inl e) = rw e
 no-run (inr e) = rw e
 
-pub field-one : {s : List ℕ} {at : ℕ} {f : List ℕ} {e : ℕ} → at ≤ length s → Field s at f e → (f ≡ fieldAt s at) × (e ≡ fieldEnd s at)
+pub field-one : {s : List ℕ} {at : ℕ} {f : List ℕ} {e : ℕ} → at ≤ length s → Field s at f e
+    → (f ≡ fieldAt s at) × (e ≡ fieldEnd s at)
 unfolding fieldAt fieldEnd endFrom
 field-one {s} {at} {f} {e} h p =
-    let q : drop at s ≡ f ++ drop e s = ap (λ (r : List ℕ). drop at r) (p .whole) ∙ drop-at (take at s) (f ++ drop e s) at (length-take-le at s h) in
+    let q : drop at s ≡ f ++ drop e s = ap (λ (r : List ℕ). drop at r) (p .whole)
+    ∙ drop-at (take at s) (f ++ drop e s) at (length-take-le at s h) in
     let z = no-run (p .after) in
     let k : runToTab (drop at s) ≡ length f = ap runToTab q ∙ runToTab-append f (drop e s) (p .no-tab) ∙ omega arith in
     (sym (rw (k, q, take-append-seam)), p .place ∙ ap (λ (n : ℕ). at + n) (sym k))
@@ -48,7 +55,8 @@ field-one {s} {at} {f} {e} h p =
 -- ---- the next field
 
 -- a tab ends the field: the next one starts after it, within the line or at its end
-pub next-starts : (s : List ℕ) (at : ℕ) → at ≤ length s → fieldEnd s at < length s → (nextStart s at ≡ fieldEnd s at + 1) × (nextStart s at ≤ length s)
+pub next-starts : (s : List ℕ) (at : ℕ) → at ≤ length s → fieldEnd s at < length s
+    → (nextStart s at ≡ fieldEnd s at + 1) × (nextStart s at ≤ length s)
 next-starts s at h l = let q = nextStart-is s at h in (q, omega arith)
 
 -- the line's end ends it: there is none, whatever the field held

@@ -1,5 +1,5 @@
--- The fields of a line. Paper: 01, "Lines", "fields parted by a tab", and "The reader works over the one lent line and keeps where
--- the next field starts; each field is handed back as that part of the line".
+-- The fields of a line. Paper: 01, "Lines", "fields parted by a tab", and "The reader works over the one lent line
+-- and keeps where the next field starts; each field is handed back as that part of the line".
 --
 --   tab                the byte between two fields
 --   runTo stop s       how many bytes of s stand before its first byte `stop`, or in all; `runToTab s` for the tab
@@ -46,7 +46,8 @@ fieldAt s at = take (runToTab (drop at s)) (drop at s)
 unfoldable pub nextStart : List ℕ → ℕ → ℕ
 nextStart s at = cond (ltb (length s) at) at (fieldEnd s at + 1)
 
--- "the subslice between two tabs": before it the line's first `at` bytes, no tab in it, and after it a tab or the line's end
+-- "the subslice between two tabs": before it the line's first `at` bytes, no tab in it, and after it a tab or the
+-- line's end
 pub record Field (s : List ℕ) (at : ℕ) (f : List ℕ) (e : ℕ) : Type 0 where
   pub place : e ≡ at + length f
   pub whole : s ≡ take at s ++ (f ++ drop e s)

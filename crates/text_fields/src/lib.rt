@@ -1,5 +1,6 @@
-// Fields of a line, parted by tabs. A place in a line of n bytes is 0 to n + 1: a field may start at n, and is then empty (a line
-// that ends in a tab has such a last field); n + 1 is the start of no field, and says that there are no more.
+// Fields of a line, parted by tabs. A place in a line of n bytes is 0 to n + 1: a field may start at n, and is then
+// empty (a line that ends in a tab has such a last field); n + 1 is the start of no field, and says that there are no
+// more.
 ghost use mathlib.Core.Path.{_≡_};
 ghost use Rattle.text_fields.specs.Fields.{endFrom, fieldEnd, fieldAt, nextStart};
 

@@ -1,5 +1,6 @@
--- A place in a line at which a field is over: what may follow, and what the reader of the next number says there. All over any
--- language L of lines, and any `ok` that says how many numbers may still follow, so that every form is a few lines of Column.antt.
+-- A place in a line at which a field is over: what may follow, and what the reader of the next number says there. All
+-- over any language L of lines, and any `ok` that says how many numbers may still follow, so that every form is a few
+-- lines of Column.antt.
 -- Assumes nothing.
 use Prim.Native.Nat.{ℕ, zero, suc, _+_, _≤_, _<_}
 use mathlib.Core.List.{List, [], _∷_, _++_, append-assoc, append-nil}
@@ -22,7 +23,8 @@ use Rattle.text_records.specs.declared.Numbered.{Numbered}
 use Rattle.text_records.specs.declared.Numbered.the-variants as S
 use Rattle.text_forms.specs.Forms.{BadAt}
 use Rattle.text_forms.proofs.Parsed.{Numbers}
-use Rattle.text_fields.proofs.FieldLaws.{firstField, runToTab-most, runToTab-tab, runToTab-afterField, runToTab-none, firstField-front}
+use Rattle.text_fields.proofs.FieldLaws.{firstField, runToTab-most, runToTab-tab, runToTab-afterField, runToTab-none}
+use Rattle.text_fields.proofs.FieldLaws.{firstField-front}
 use Rattle.text_forms.proofs.NumberFields.{dec-whole, dec-split, numberOf-stable, Start, numberOf-start}
 
 -- ---- numbers after tabs
@@ -48,7 +50,8 @@ no-numbers (suc k) (n, y, m, e, h) = cons-nil (sym e)
 
 -- ---- the place after a field
 
--- The first e bytes of s begin a line of L, a field is over there, and exactly `ok` many numbers make such a beginning a line.
+-- The first e bytes of s begin a line of L, a field is over there, and exactly `ok` many numbers make such a
+-- beginning a line.
 pub record At (L : List ℕ → Type 0) (s : List ℕ) (e : ℕ) (ok : ℕ → Bool) : Type 0 where
   pub within : e ≤ length s
   pub tabbed : runToTab (drop e s) ≡ 0
@@ -72,7 +75,8 @@ module _ (L : List ℕ → Type 0) (s : List ℕ) (e : ℕ) (ok : ℕ → Bool) 
     within = a .within;
     start = let (x, n) = zeros k in (x, a .to k x o n);
     stop = λ b. absurd (omega arith);
-    not-one = λ l. no (a .from [] (numbers-tabbed 0 [] refl) (subst L (sym (append-nil (take e s) ∙ take-all e s h)) l));
+    not-one =
+        λ l. no (a .from [] (numbers-tabbed 0 [] refl) (subst L (sym (append-nil (take e s) ∙ take-all e s h)) l));
   }
     where
       no : (k : ℕ) × (ok k ≡ true) × Numbers k [] → ⊥
@@ -97,10 +101,12 @@ module _ (L : List ℕ → Type 0) (s : List ℕ) (e : ℕ) (ok : ℕ → Bool) 
     whole = sym (take-append-drop e s) ∙ ap (λ (r : List ℕ). take e s ++ r) cut
 
     -- a line of L that begins so has a number there
-    numbered : (x : List ℕ) → L (take e s ++ 9 ∷ x) → (k : ℕ) × (ok (suc k) ≡ true) × (m : ℕ) × (y : List ℕ) × (m ≤ largest) × (x ≡ dec m ++ y) × Numbers k y
+    numbered : (x : List ℕ) → L (take e s ++ 9 ∷ x) → (k : ℕ) × (ok (suc k) ≡ true) × (m : ℕ) × (y : List ℕ)
+        × (m ≤ largest) × (x ≡ dec m ++ y) × Numbers k y
     numbered x l = go (a .from (9 ∷ x) (runToTab-tab x) l)
       where
-        go : (k : ℕ) × (ok k ≡ true) × Numbers k (9 ∷ x) → (k : ℕ) × (ok (suc k) ≡ true) × (m : ℕ) × (y : List ℕ) × (m ≤ largest) × (x ≡ dec m ++ y) × Numbers k y
+        go : (k : ℕ) × (ok k ≡ true) × Numbers k (9 ∷ x) → (k : ℕ) × (ok (suc k) ≡ true) × (m : ℕ) × (y : List ℕ)
+            × (m ≤ largest) × (x ≡ dec m ++ y) × Numbers k y
         go (zero, o, n) = cons-nil n
         go (suc k, o, (m, y, b, q, n)) = (k, o, m, y, b, tail-of _ _ _ _ q, n)
 
@@ -124,30 +130,36 @@ module _ (L : List ℕ → Type 0) (s : List ℕ) (e : ℕ) (ok : ℕ → Bool) 
     number-well v n = record {
       within = omega (arith, runToTab-most rest, length-drop (e + 1) s);
       tabbed = ap runToTab (sym (drop-drop (runToTab rest) (e + 1) s)) ∙ runToTab-afterField rest;
-      to = λ k x o m. subst L (shape x) (a .to (suc k) (9 ∷ (dec v ++ x)) o (v, x, numberIn-printed (firstField rest) v n .0, refl, m));
+      to = λ k x o m. subst L (shape x)
+          (a .to (suc k) (9 ∷ (dec v ++ x)) o (v, x, numberIn-printed (firstField rest) v n .0, refl, m));
       from = λ x z l. go x z (numbered (dec v ++ x) (subst L (sym (shape x)) l));
     }
       where
         shape : (x : List ℕ) → take e s ++ 9 ∷ (dec v ++ x) ≡ take (e + 1 + runToTab rest) s ++ x
         shape x =
             ap (λ (f : List ℕ). take e s ++ 9 ∷ (f ++ x)) (sym (numberIn-printed (firstField rest) v n .1))
-            ∙ sym (append-assoc (take e s) (9 ∷ firstField rest) x) ∙ ap (λ (r : List ℕ). r ++ x) (sym (front (runToTab rest)))
+            ∙ sym (append-assoc (take e s) (9 ∷ firstField rest) x)
+            ∙ ap (λ (r : List ℕ). r ++ x) (sym (front (runToTab rest)))
 
-        go : (x : List ℕ) → runToTab x ≡ 0 → (k : ℕ) × (ok (suc k) ≡ true) × (m : ℕ) × (y : List ℕ) × (m ≤ largest) × (dec v ++ x ≡ dec m ++ y) × Numbers k y
+        go : (x : List ℕ) → runToTab x ≡ 0 → (k : ℕ) × (ok (suc k) ≡ true) × (m : ℕ) × (y : List ℕ) × (m ≤ largest)
+            × (dec v ++ x ≡ dec m ++ y) × Numbers k y
             → (k : ℕ) × (ok (suc k) ≡ true) × Numbers k x
         go x z (k, o, m, y, b, q, t) =
-            let w = dec-split (dec v) x y m (dec-whole v (numberIn-printed (firstField rest) v n .0)) z b (numbers-tabbed k y t) q in
+            let w = dec-split (dec v) x y m (dec-whole v (numberIn-printed (firstField rest) v n .0)) z b
+            (numbers-tabbed k y t) q in
             (k, o, subst (Numbers k) (sym (w .1)) t)
 
     -- a number that goes bad
-    pub number-bad : (k : ℕ) → ok (suc k) ≡ true → (j : ℕ) → numberIn (firstField rest) ≡ N.Bad j → j ≤ runToTab rest → BadAt L s (e + 1 + j)
+    pub number-bad : (k : ℕ) → ok (suc k) ≡ true → (j : ℕ) → numberIn (firstField rest) ≡ N.Bad j → j ≤ runToTab rest
+        → BadAt L s (e + 1 + j)
     number-bad k o j n w = record {
       within = omega (arith, runToTab-most rest, length-drop (e + 1) s);
       start = begin (numberOf-start (firstField rest) j n);
       stop = λ b x l.
           let p : suc (e + 1 + j) ≡ e + 1 + suc j = omega arith in
           no (take (suc j) rest ++ x) (numberOf-stable rest j x n (omega (arith, length-drop (e + 1) s)))
-          (subst L (ap (λ (i : ℕ). take i s ++ x) p ∙ ap (λ (r : List ℕ). r ++ x) (front (suc j)) ∙ append-assoc (take e s) (9 ∷ take (suc j) rest) x) l);
+          (subst L (ap (λ (i : ℕ). take i s ++ x) p ∙ ap (λ (r : List ℕ). r ++ x) (front (suc j))
+          ∙ append-assoc (take e s) (9 ∷ take (suc j) rest) x) l);
       not-one = λ l. no rest n (subst L whole l);
     }
       where
@@ -160,21 +172,25 @@ module _ (L : List ℕ → Type 0) (s : List ℕ) (e : ℕ) (ok : ℕ → Bool) 
                   (ap (λ (r : List ℕ). take e s ++ 9 ∷ (r ++ y)) (sym (b .text))
                   ∙ ap (λ (r : List ℕ). take e s ++ 9 ∷ r) (append-assoc (take j (firstField rest)) (b .more) y)
                   ∙ ap (λ (r : List ℕ). take e s ++ 9 ∷ (r ++ (b .more ++ y))) f
-                  ∙ sym (append-assoc (take e s) (9 ∷ take j rest) (b .more ++ y)) ∙ ap (λ (r : List ℕ). r ++ (b .more ++ y)) (sym (front j)))
+                  ∙ sym (append-assoc (take e s) (9 ∷ take j rest) (b .more ++ y))
+                  ∙ ap (λ (r : List ℕ). r ++ (b .more ++ y)) (sym (front j)))
                   (a .to (suc k) (9 ∷ (dec (b .number) ++ y)) o (b .number, y, b .most, refl, z)),
             )
 
         no : (r : List ℕ) → numberIn (firstField r) ≡ N.Bad j → L (take e s ++ 9 ∷ r) → ⊥
         no r n l =
             let (k, o, m, y, b, q, t) = numbered r l in
-            let f : firstField r ≡ dec m = ap firstField q ∙ firstField-front (dec m) y (dec-whole m b) (numbers-tabbed k y t) in
+            let f : firstField r ≡ dec m =
+            ap firstField q ∙ firstField-front (dec m) y (dec-whole m b) (numbers-tabbed k y t) in
             let c : N.Is m ≡ N.Bad j = sym (numberIn-print m b) ∙ ap numberIn (sym f) ∙ n in
             let z : _≡_ {A = ℕ} 0 1 = cc in
             omega arith
 
 -- ---- what the reader of one number says
 
-number-told : (s : List ℕ) (e : ℕ) (r : Numbered) → numberAt s e ≡ r → Dec (e < length s) → ((length s ≤ e) × (r ≡ S.Bad e)) ⊎ ((e < length s) × (r ≡ placed (e + 1) (fieldEnd s (e + 1)) (numberIn (fieldAt s (e + 1)))))
+number-told : (s : List ℕ) (e : ℕ) (r : Numbered) → numberAt s e ≡ r → Dec (e < length s)
+    → ((length s ≤ e) × (r ≡ S.Bad e))
+    ⊎ ((e < length s) × (r ≡ placed (e + 1) (fieldEnd s (e + 1)) (numberIn (fieldAt s (e + 1)))))
 unfolding numberAt
 number-told s e r q (yes h) = inr (h, sym q ∙ rw (lt-ltb e (length s) h))
 number-told s e r q (no h) = inl (omega arith, sym q ∙ rw (le-ltb e (length s) (omega arith)))
@@ -187,26 +203,35 @@ module _ (L : List ℕ → Type 0) (s : List ℕ) (e : ℕ) (ok : ℕ → Bool) 
   unfolding placed fieldEnd endFrom fieldAt
   next-well v n q = go (number-told s e (S.Is v n) q (decLt e (length s)))
     where
-      at : e < length s → (m : Num) → numberIn (firstField (drop (e + 1) s)) ≡ m → S.Is v n ≡ placed (e + 1) (e + 1 + runToTab (drop (e + 1) s)) m → At L s n (λ k. ok (suc k))
+      at : e < length s → (m : Num) → numberIn (firstField (drop (e + 1) s)) ≡ m
+          → S.Is v n ≡ placed (e + 1) (e + 1 + runToTab (drop (e + 1) s)) m → At L s n (λ k. ok (suc k))
       at h (N.Is w) p r =
           let z : n ≡ e + 1 + runToTab (drop (e + 1) s) = cc in
           subst (λ (i : ℕ). At L s i (λ k. ok (suc k))) (sym z) (number-well L s e ok a h w p)
       at h (N.Bad j) p r = let z : _≡_ {A = ℕ} 0 1 = cc in absurd (omega arith)
 
-      go : ((length s ≤ e) × (S.Is v n ≡ S.Bad e)) ⊎ ((e < length s) × (S.Is v n ≡ placed (e + 1) (fieldEnd s (e + 1)) (numberIn (fieldAt s (e + 1))))) → At L s n (λ k. ok (suc k))
+      go : ((length s ≤ e) × (S.Is v n ≡ S.Bad e))
+          ⊎ ((e < length s) × (S.Is v n ≡ placed (e + 1) (fieldEnd s (e + 1)) (numberIn (fieldAt s (e + 1)))))
+          → At L s n (λ k. ok (suc k))
       go (inl (h, r)) = let z : _≡_ {A = ℕ} 0 1 = cc in absurd (omega arith)
       go (inr (h, r)) = at h (numberIn (firstField (drop (e + 1) s))) refl r
 
-  pub next-bad : (k : ℕ) → ok (suc k) ≡ true → (length s ≤ e → ok 0 ≡ false) → (c : ℕ) → numberAt s e ≡ S.Bad c → BadAt L s c
+  pub next-bad : (k : ℕ) → ok (suc k) ≡ true → (length s ≤ e → ok 0 ≡ false) → (c : ℕ) → numberAt s e ≡ S.Bad c
+      → BadAt L s c
   unfolding placed fieldEnd endFrom fieldAt
   next-bad k o f c q = go (number-told s e (S.Bad c) q (decLt e (length s)))
     where
-      at : e < length s → (m : Num) → numberIn (firstField (drop (e + 1) s)) ≡ m → S.Bad c ≡ placed (e + 1) (e + 1 + runToTab (drop (e + 1) s)) m → BadAt L s c
+      at : e < length s → (m : Num) → numberIn (firstField (drop (e + 1) s)) ≡ m
+          → S.Bad c ≡ placed (e + 1) (e + 1 + runToTab (drop (e + 1) s)) m → BadAt L s c
       at h (N.Is w) p r = let z : _≡_ {A = ℕ} 0 1 = cc in absurd (omega arith)
       at h (N.Bad j) p r =
           let z : c ≡ e + 1 + j = cc in
-          subst (BadAt L s) (sym z) (number-bad L s e ok a h k o j p (omega (arith, length-field (drop (e + 1) s), numberIn-bad-within (firstField (drop (e + 1) s)) j p)))
+          subst (BadAt L s) (sym z)
+          (number-bad L s e ok a h k o j p
+          (omega (arith, length-field (drop (e + 1) s), numberIn-bad-within (firstField (drop (e + 1) s)) j p)))
 
-      go : ((length s ≤ e) × (S.Bad c ≡ S.Bad e)) ⊎ ((e < length s) × (S.Bad c ≡ placed (e + 1) (fieldEnd s (e + 1)) (numberIn (fieldAt s (e + 1))))) → BadAt L s c
+      go : ((length s ≤ e) × (S.Bad c ≡ S.Bad e))
+          ⊎ ((e < length s) × (S.Bad c ≡ placed (e + 1) (fieldEnd s (e + 1)) (numberIn (fieldAt s (e + 1)))))
+          → BadAt L s c
       go (inl (h, r)) = let z : c ≡ e = cc in subst (BadAt L s) (sym z) (end-bad L s e ok a h (suc k) o (f h))
       go (inr (h, r)) = at h (numberIn (firstField (drop (e + 1) s))) refl r

@@ -1,5 +1,5 @@
--- The judgement of a line, as it is read. Paper: 01, "Lines", refusal 14, "the line has no such form, is empty, or is longer than
--- 2,048 bytes", and 02, request 1, "A line that is too long gives column 2,048".
+-- The judgement of a line, as it is read. Paper: 01, "Lines", refusal 14, "the line has no such form, is empty, or is
+-- longer than 2,048 bytes", and 02, request 1, "A line that is too long gives column 2,048".
 --
 --   keywordIn f           the word of the form f, and
 --   numbersIn f vs     its numbers; vs are the entries of its list
@@ -8,7 +8,8 @@
 --   entriesOf s        the entries of the line's list
 --   IsForm f             the answer f is one of the forms
 --   InLine f           the answer f is one of them, or its column is at most the length limit
---   Judged s o x r     the line s was judged with the words o lent for its list: x is what they hold then, and r the answer
+--   Judged s o x r     the line s was judged with the words o lent for its list: x is what they hold then, and r the
+--                      answer
 -- Theorems.antt: the form read is the form printed, and a bad line's column is the one of `BadAt`.
 -- Assumes nothing.
 use Prim.Native.Nat.{ℕ, _+_, _≤_}

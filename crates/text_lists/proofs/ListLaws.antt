@@ -1,5 +1,5 @@
--- Laws of specs/Lists.antt, and the state of a loop over the list: how far it has come, what it has seen, and that what is left still
--- gives the answer. One law to begin, one for each way on, one for the end.
+-- Laws of specs/Lists.antt, and the state of a loop over the list: how far it has come, what it has seen, and that
+-- what is left still gives the answer. One law to begin, one for each way on, one for the end.
 -- Assumes nothing.
 use Prim.Native.Nat.{ℕ, zero, suc, _+_, _*_, _≤_, _<_}
 use mathlib.Core.List.{List, [], _∷_, _++_, append-nil, append-assoc}
@@ -34,7 +34,18 @@ pub record At (s o out : List ℕ) (n e : ℕ) : Type 0 where
 
 pub at-start : (s o : List ℕ) → At s o o 0 0
 unfolding listEntries listOf
-at-start s o = record { fuel = length s; enough = omega arith; seen = []; count = refl; text = sym (rw fitting-none (over-none o)); listed = refl; values = refl; within = omega arith; half = omega arith }
+at-start s o =
+    record {
+      fuel = length s;
+      enough = omega arith;
+      seen = [];
+      count = refl;
+      text = sym (rw fitting-none (over-none o));
+      listed = refl;
+      values = refl;
+      within = omega arith;
+      half = omega arith;
+    }
 
 -- the two definitions, where an entry stands, and where none does
 module _ (s : List ℕ) (f n e : ℕ) where
@@ -83,7 +94,9 @@ module _ (s o out : List ℕ) (n e : ℕ) (h : e < length s) where
       let l = rw (m .1) at (a .listed) in
       let v = rw (m .1) at (a .values) in record {
         answer = sym (listedFrom-bad s (m .0) n e h k q) ∙ l;
-        words = a .text ∙ ap (λ (t : List ℕ). over (fitting t o) o) (sym (append-nil (a .seen)) ∙ ap (λ (t : List ℕ). a .seen ++ t) (sym (valuesFrom-bad s (m .0) n e h k q)) ∙ v);
+        words = a .text
+            ∙ ap (λ (t : List ℕ). over (fitting t o) o) (sym (append-nil (a .seen))
+            ∙ ap (λ (t : List ℕ). a .seen ++ t) (sym (valuesFrom-bad s (m .0) n e h k q)) ∙ v);
       }
 
   pub at-is : (v m : ℕ) → At s o out n e → numberAt s e ≡ S.Is v m → At s o (set out n v) (n + 1) m
@@ -100,7 +113,8 @@ module _ (s o out : List ℕ) (n e : ℕ) (h : e < length s) where
         count = rw length-append (omega arith);
         text = rw (a .text, c) (over-fitting-snoc (a .seen) o v);
         listed = sym (listedFrom-is s (m .0) n e h v j q) ∙ l;
-        values = append-assoc (a .seen) (v ∷ []) (valuesFrom (m .0) s j) ∙ ap (λ (t : List ℕ). a .seen ++ t) (sym (valuesFrom-is s (m .0) n e h v j q)) ∙ w;
+        values = append-assoc (a .seen) (v ∷ []) (valuesFrom (m .0) s j)
+            ∙ ap (λ (t : List ℕ). a .seen ++ t) (sym (valuesFrom-is s (m .0) n e h v j q)) ∙ w;
         within = p .within;
         half = omega (arith, a .half);
       }
@@ -108,7 +122,9 @@ module _ (s o out : List ℕ) (n e : ℕ) (h : e < length s) where
 pub at-end : (s o out : List ℕ) (n e : ℕ) → length s ≤ e → At s o out n e → Listing s o out (All n)
 at-end s o out n e h a = record {
   answer = sym (listedFrom-end s (a .fuel) n e h) ∙ a .listed;
-  words = a .text ∙ ap (λ (t : List ℕ). over (fitting t o) o) (sym (append-nil (a .seen)) ∙ ap (λ (t : List ℕ). a .seen ++ t) (sym (valuesFrom-end s (a .fuel) n e h)) ∙ a .values);
+  words = a .text
+      ∙ ap (λ (t : List ℕ). over (fitting t o) o) (sym (append-nil (a .seen))
+      ∙ ap (λ (t : List ℕ). a .seen ++ t) (sym (valuesFrom-end s (a .fuel) n e h)) ∙ a .values);
 }
 
 pub at-size : (s o out : List ℕ) (n e : ℕ) → At s o out n e → length out ≡ length o
@@ -128,7 +144,8 @@ listing-past s o at h = rw (drop-of-length-le s h) (listing-none o)
 module _ (s : List ℕ) where
   -- from e on: an entry has at least a tab and a digit
   most-step : (f e : ℕ) → ((i : ℕ) → i ≤ length s → 2 * length (valuesFrom f s i) + i ≤ length s) → e ≤ length s
-      → (r : Numbered) → numberAt s e ≡ r → (b : Bool) → ltb e (length s) ≡ b → 2 * length (cond b (withEntry (valuesFrom f s) r) []) + e ≤ length s
+      → (r : Numbered) → numberAt s e ≡ r → (b : Bool) → ltb e (length s) ≡ b
+      → 2 * length (cond b (withEntry (valuesFrom f s) r) []) + e ≤ length s
   unfolding withEntry
   most-step f e ih h r q false b = omega arith
   most-step f e ih h (S.Bad c) q true b = omega arith
@@ -147,8 +164,10 @@ module _ (s : List ℕ) where
   listEntries-most = omega (arith, most-from (length s) 0 (omega arith))
 
   module _ (m : ℕ) where
-    count-step : (f n e : ℕ) → ((k i : ℕ) → listedFrom f k s i ≡ All m → m ≡ k + length (valuesFrom f s i)) → (r : Numbered) → (b : Bool)
-        → cond b (pastEntry (listedFrom f (n + 1) s) r) (All n) ≡ All m → m ≡ n + length (cond b (withEntry (valuesFrom f s) r) [])
+    count-step : (f n e : ℕ) → ((k i : ℕ) → listedFrom f k s i ≡ All m → m ≡ k + length (valuesFrom f s i))
+        → (r : Numbered) → (b : Bool)
+        → cond b (pastEntry (listedFrom f (n + 1) s) r) (All n) ≡ All m
+        → m ≡ n + length (cond b (withEntry (valuesFrom f s) r) [])
     unfolding pastEntry withEntry
     count-step f n e ih r false q = let z : n ≡ m = cc in omega arith
     count-step f n e ih (S.Bad c) true q = let z : _≡_ {A = ℕ} 0 1 = cc in absurd (omega arith)

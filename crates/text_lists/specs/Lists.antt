@@ -1,5 +1,6 @@
--- The promise fields of async. Paper: 01, "Lines", "The promise fields of async are read from the rest of the line after the child",
--- and "The five steps", "The list may have no entries". s is that rest: empty, or a tab and a field for each entry.
+-- The promise fields of async. Paper: 01, "Lines", "The promise fields of async are read from the rest of the line
+-- after the child", and "The five steps", "The list may have no entries". s is that rest: empty, or a tab and a field
+-- for each entry.
 --
 --   listEntries s         the entries, up to the first bad one
 --   listOf s           `All n` with how many they are, or `Bad c` with the column, in s, of the first bad byte

@@ -1,5 +1,5 @@
-// The promise fields of async, read from the rest of the line after the child into lent words. Lent one word for two bytes, all of
-// them find room; of a longer list those without room are counted and not kept.
+// The promise fields of async, read from the rest of the line after the child into lent words. Lent one word for two
+// bytes, all of them find room; of a longer list those without room are counted and not kept.
 ghost use mathlib.Core.Path.{_≡_};
 ghost use lib.ListN.{set, drop};
 ghost use Rattle.text_lists.specs.Lists.{Listing};

@@ -1,5 +1,6 @@
-// The reader of a line: the one lent line, and where its next field starts. Its functions take it apart and call `fields` on the slice
-// and the number. `field_from` has plain parameters: whoever reads a line calls that, and needs no proof by hand.
+// The reader of a line: the one lent line, and where its next field starts. Its functions take it apart and call
+// `fields` on the slice and the number. `field_from` has plain parameters: whoever reads a line calls that, and needs
+// no proof by hand.
 ghost use mathlib.Core.Path.{_≡_};
 ghost use Rattle.text_fields.specs.Fields.{fieldAt, nextStart};
 

@@ -1,5 +1,5 @@
--- Laws of specs/Records.antt: one for each way out of reading a number, that its end lies past the tab and within the line, and
--- that a line goes by its first field's word.
+-- Laws of specs/Records.antt: one for each way out of reading a number, that its end lies past the tab and within the
+-- line, and that a line goes by its first field's word.
 -- Assumes nothing.
 use Prim.Native.Nat.{ℕ, _+_, _≤_, _<_}
 use mathlib.Core.List.{List}
@@ -51,7 +51,8 @@ pub record Ends (s : List ℕ) (e n : ℕ) : Type 0 where
   pub within : n ≤ length s
 
 module _ (s : List ℕ) (e : ℕ) (h : e < length s) where
-  ends-step : (v n : ℕ) (r : Num) → r ≡ numberIn (fieldAt s (e + 1)) → placed (e + 1) (fieldEnd s (e + 1)) r ≡ S.Is v n → Ends s e n
+  ends-step : (v n : ℕ) (r : Num) → r ≡ numberIn (fieldAt s (e + 1)) → placed (e + 1) (fieldEnd s (e + 1)) r ≡ S.Is v n
+      → Ends s e n
   unfolding placed
   ends-step v n (N.Is w) q p =
       let z : fieldEnd s (e + 1) ≡ n = cc in
@@ -68,7 +69,8 @@ module _ (s : List ℕ) (e : ℕ) (h : e < length s) where
 -- ---- the line
 
 -- a line goes by its first field's word
-pub recordOf-by : (s f : List ℕ) (w v : Keyword) → f ≡ fieldAt s 0 → w ≡ keywordOf f → w ≡ v → recordOf s ≡ afterWord s (length f) v
+pub recordOf-by : (s f : List ℕ) (w v : Keyword) → f ≡ fieldAt s 0 → w ≡ keywordOf f → w ≡ v
+    → recordOf s ≡ afterWord s (length f) v
 unfolding recordOf
 recordOf-by s f w v q k r =
     let z : length f ≡ fieldEnd s 0 = omega (arith, ap (λ (g : List ℕ). length g) q, fieldAt-length s 0) in

@@ -1,5 +1,5 @@
--- 01, "How much each contract must say": any two outcomes that the contracts of this crate allow coincide. That a record is what the
--- paper's forms say is the theorem of `forms`.
+-- 01, "How much each contract must say": any two outcomes that the contracts of this crate allow coincide. That a
+-- record is what the paper's forms say is the theorem of `forms`.
 -- Assumes nothing.
 use Prim.Native.Nat.{ℕ}
 use mathlib.Core.List.{List}

@@ -1,10 +1,12 @@
--- The record of a line, as it is read from the left. Paper: 01, "Lines", "One record a line, fields parted by a tab"; every bad line
--- has the column of its first bad byte (02, request 1). A place e is where a field ends: a tab stands there, or the line is over.
+-- The record of a line, as it is read from the left. Paper: 01, "Lines", "One record a line, fields parted by a tab";
+-- every bad line has the column of its first bad byte (02, request 1). A place e is where a field ends: a tab stands
+-- there, or the line is over.
 --
 --   numberAt s e       the number of the field after the tab at e, and where that field ends
 --   pairAt s e         two numbers, one field after the other
 --   lastPair s p       the same, where the line has to end after the second
---   recordOf s         the record of the line s; for a step with a list up to its numbers, with the place where the rest of the line starts
+--   recordOf s         the record of the line s; for a step with a list up to its numbers, with the place where the
+--                      rest of the line starts
 -- What a well-formed line is stands in `forms`, in the direction of printing; there it is proved that both agree.
 -- Assumes nothing.
 use Prim.Native.Nat.{ℕ, _+_}

@@ -1,5 +1,5 @@
-// One record a line: its word, and its numbers, each field handed back by a reader of the line. A line that is none has the column of
-// its first bad byte.
+// One record a line: its word, and its numbers, each field handed back by a reader of the line. A line that is none
+// has the column of its first bad byte.
 ghost use mathlib.Core.Path.{_≡_};
 ghost use Rattle.text_records.specs.Records.{numberAt, pairAt, lastPair, ofOne, afterKind, recordOf};
 ghost use Rattle.step_kinds.specs.Kinds.{shapeOf};
@@ -21,8 +21,8 @@ pub enum NumberPair {
     Bad(usize),
 }
 
-// The records. `Listing` is a step that takes a list, with where the rest of the line after its numbers starts; `Plain` one that takes none. A step of one number has 0 for
-// the other.
+// The records. `Listing` is a step that takes a list, with where the rest of the line after its numbers starts;
+// `Plain` one that takes none. A step of one number has 0 for the other.
 pub enum LineRecord {
     Open(u16, u16),
     Plain(Kind, u16, u16),

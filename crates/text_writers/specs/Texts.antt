@@ -1,5 +1,5 @@
--- The text of fields. Paper: 01, "Lines", "fields parted by a tab", and "Its fields go into the rest of the lent answer line, after the
--- line number and a tab". A number's printed form is `dec` of `numbers`.
+-- The text of fields. Paper: 01, "Lines", "fields parted by a tab", and "Its fields go into the rest of the lent
+-- answer line, after the line number and a tab". A number's printed form is `dec` of `numbers`.
 --
 --   fieldText n        a tab, and n in its printed form
 --   fieldsText ns      one such field for each number of ns, in order

@@ -32,7 +32,8 @@ returns : tie.Need-returns
 unfolding fieldsIn
 returns c =
     rw (fieldsText-append, fieldsText-append, fieldsText-append)
-    (added-added (added-added (added-added (c .before .before .before .before .before .before .before .before .before .before .before .before .before .before .add-refusal .ensures) (c .before .before .before .before .before .before .before .before .before .before .add-part .ensures)) (c .before .before .before .before .before .before .add-part2 .ensures)) (c .before .before .add-part3 .ensures))
+    (added-added (added-added
+    (added-added (c .before .before .before .before .before .before .before .before .before .before .before .before .before .before .add-refusal .ensures) (c .before .before .before .before .before .before .before .before .before .before .add-part .ensures)) (c .before .before .before .before .before .before .add-part2 .ensures)) (c .before .before .add-part3 .ensures))
 
 pub add-fields-spec : {M : Type 1} → statement M
 add-fields-spec =

@@ -16,7 +16,11 @@ same-length : tie.Need-same-length
 same-length c = search needs
 
 returns : tie.Need-returns
-returns c = rw (fieldsText-append (c .before .before .before .before .before .before .before .before .before .before .args .count ∷ [])) (added-added (c .before .before .before .before .before .before .add-field .ensures) (c .before .before .add-part .ensures))
+returns c =
+    rw (fieldsText-append
+    (c .before .before .before .before .before .before .before .before .before .before .args .count ∷ []))
+    (added-added (c .before .before .before .before .before .before .add-field .ensures)
+    (c .before .before .add-part .ensures))
 
 pub add-list-spec : {M : Type 1} → statement M
 add-list-spec = tie.close (tie.spec add-field-requires add-part-requires same-length returns)

@@ -25,7 +25,8 @@ same-length-2 c = search needs
 
 returns-2 : tie.Need-returns-2
 unfolding wordFor lookedUp
-returns-2 c = rw (c .before .before .before .before .before .if1 .left, c .before .before .before .before .if2 .taken) (c .before .before .add-opened .ensures)
+returns-2 c = rw (c .before .before .before .before .before .if1 .left, c .before .before .before .before .if2 .taken)
+    (c .before .before .add-opened .ensures)
 
 add-made-requires : tie.Need-add-made-requires
 add-made-requires c κs = search needs
@@ -35,7 +36,9 @@ same-length-3 c = search needs
 
 returns-3 : tie.Need-returns-3
 unfolding wordFor lookedUp
-returns-3 c = rw (c .before .before .before .before .before .before .if1 .left, c .before .before .before .before .if3 .taken) (c .before .before .add-made .ensures)
+returns-3 c =
+    rw (c .before .before .before .before .before .before .if1 .left, c .before .before .before .before .if3 .taken)
+    (c .before .before .add-made .ensures)
 
 add-set-requires : tie.Need-add-set-requires
 add-set-requires c κs = search needs
@@ -45,7 +48,11 @@ same-length-4 c = search needs
 
 returns-4 : tie.Need-returns-4
 unfolding wordFor lookedUp
-returns-4 c = rw (c .before .before .before .before .before .before .before .if1 .left, c .before .before .before .before .if4 .taken) (c .before .before .add-set .ensures)
+returns-4 c =
+    rw (
+      c .before .before .before .before .before .before .before .if1 .left,
+      c .before .before .before .before .if4 .taken,
+    ) (c .before .before .add-set .ensures)
 
 add-value-requires : tie.Need-add-value-requires
 add-value-requires c κs = search needs
@@ -55,7 +62,11 @@ same-length-5 c = search needs
 
 returns-5 : tie.Need-returns-5
 unfolding wordFor lookedUp
-returns-5 c = rw (c .before .before .before .before .before .before .before .before .if1 .left, c .before .before .before .before .if5 .taken) (c .before .before .add-value .ensures)
+returns-5 c =
+    rw (
+      c .before .before .before .before .before .before .before .before .if1 .left,
+      c .before .before .before .before .if5 .taken,
+    ) (c .before .before .add-value .ensures)
 
 add-blamed-requires : tie.Need-add-blamed-requires
 add-blamed-requires c κs = search needs
@@ -65,7 +76,11 @@ same-length-6 c = search needs
 
 returns-6 : tie.Need-returns-6
 unfolding wordFor lookedUp
-returns-6 c = rw (c .before .before .before .before .before .before .before .before .before .if1 .left, c .before .before .before .before .if6 .taken) (c .before .before .add-blamed .ensures)
+returns-6 c =
+    rw (
+      c .before .before .before .before .before .before .before .before .before .if1 .left,
+      c .before .before .before .before .if6 .taken,
+    ) (c .before .before .add-blamed .ensures)
 
 add-waits-requires : tie.Need-add-waits-requires
 add-waits-requires c κs = search needs
@@ -75,7 +90,11 @@ same-length-7 c = search needs
 
 returns-7 : tie.Need-returns-7
 unfolding wordFor lookedUp
-returns-7 c = rw (c .before .before .before .before .before .before .before .before .before .before .if1 .left, c .before .before .before .before .if7 .taken) (c .before .before .add-waits .ensures)
+returns-7 c =
+    rw (
+      c .before .before .before .before .before .before .before .before .before .before .if1 .left,
+      c .before .before .before .before .if7 .taken,
+    ) (c .before .before .add-waits .ensures)
 
 add-cycle-requires : tie.Need-add-cycle-requires
 add-cycle-requires c κs = search needs
@@ -85,7 +104,10 @@ same-length-8 c = search needs
 
 returns-8 : tie.Need-returns-8
 unfolding wordFor lookedUp
-returns-8 c = rw (c .before .before .before .before .before .before .before .before .before .before .before .if1 .left, c .before .before .before .before .if8 .taken) (c .before .before .add-cycle .ensures)
+returns-8 c = rw (
+  c .before .before .before .before .before .before .before .before .before .before .before .if1 .left,
+  c .before .before .before .before .if8 .taken,
+) (c .before .before .add-cycle .ensures)
 
 add-started-requires : tie.Need-add-started-requires
 add-started-requires c κs = search needs
@@ -95,7 +117,11 @@ same-length-9 c = search needs
 
 returns-9 : tie.Need-returns-9
 unfolding wordFor lookedUp
-returns-9 c = rw (c .before .before .before .before .before .before .before .before .before .before .before .before .if1 .left, c .before .before .before .before .if9 .taken) (c .before .before .add-started .ensures)
+returns-9 c =
+    rw (
+      c .before .before .before .before .before .before .before .before .before .before .before .before .if1 .left,
+      c .before .before .before .before .if9 .taken,
+    ) (c .before .before .add-started .ensures)
 
 add-ended-requires : tie.Need-add-ended-requires
 add-ended-requires c κs = search needs
@@ -105,7 +131,8 @@ same-length-10 c = search needs
 
 returns-10 : tie.Need-returns-10
 unfolding wordFor lookedUp
-returns-10 c = rw (c .before .before .before .before .before .before .before .before .before .before .before .before .before .if1 .left, c .before .before .before .before .if10 .taken) (c .before .before .add-ended .ensures)
+returns-10 c =
+    rw (c .before .before .before .before .before .before .before .before .before .before .before .before .before .if1 .left, c .before .before .before .before .if10 .taken) (c .before .before .add-ended .ensures)
 
 returns-11 : tie.Need-returns-11
 unfolding wordFor lookedUp

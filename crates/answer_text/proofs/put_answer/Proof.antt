@@ -28,7 +28,8 @@ same-length c = search needs
 
 returns : tie.Need-returns
 returns c =
-    answer-wrote _ _ _ (c .before .before .before .before .before .before .before .before .before .before .before .before .layout .ensures) (c .before .before .before .before .before .before .before .before .before .before .before .before .before .before .before .before .before .before .before .put-digits .ensures) (c .before .before .before .before .before .before .before .before .before .before .before .before .before .before .before .add-byte .ensures)
+    answer-wrote _ _ _
+    (c .before .before .before .before .before .before .before .before .before .before .before .before .layout .ensures) (c .before .before .before .before .before .before .before .before .before .before .before .before .before .before .before .before .before .before .before .put-digits .ensures) (c .before .before .before .before .before .before .before .before .before .before .before .before .before .before .before .add-byte .ensures)
     (c .before .before .before .before .before .before .before .before .before .before .add-word .ensures)
     (c .before .before .before .before .before .before .add-fields .ensures)
     (c .before .before .add-byte2 .ensures)

@@ -1,5 +1,5 @@
--- `text_fields::field` meets its contract: the part from `at` to the field's end is the field (`fieldAt-part`), and past the line there
--- is none (`fieldAt-past`).
+-- `text_fields::field` meets its contract: the part from `at` to the field's end is the field (`fieldAt-part`), and
+-- past the line there is none (`fieldAt-past`).
 -- Assumes nothing.
 use mathlib.Core.Path.{sym}
 use native.Mathlib.Omega.{arith}

@@ -1,4 +1,5 @@
--- `text_fields::next_start` meets its contract: past the line it stays, within it the next field starts after this one's end.
+-- `text_fields::next_start` meets its contract: past the line it stays, within it the next field starts after this
+-- one's end.
 -- Assumes nothing.
 use Prim.Native.Nat.{ℕ, _+_}
 use mathlib.Core.Path.{ap, sym, _∙_}

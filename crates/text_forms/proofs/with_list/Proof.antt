@@ -19,25 +19,37 @@ enum-known-j c = search needs
 -- the column is one of the line
 add-t13 : tie.Need-add-t13
 add-t13 c =
-    let h = c .before .before .before .before .before .before .before .before .before .pre _ (sym (withList-bad _ _ _ _ _ _ (sym (c .before .before .before .before .before .list-after .ensures .answer) ∙ c .before .j .given .1))) in
+    let h = c .before .before .before .before .before .before .before .before .before .pre _
+    (sym (withList-bad _ _ _ _ _ _ (sym (c .before .before .before .before .before .list-after .ensures .answer)
+    ∙ c .before .j .given .1))) in
     omega arith
 
 cast-t14 : tie.Need-cast-t14
 cast-t14 c =
-    let h = c .before .before .before .before .before .before .before .before .before .pre _ (sym (withList-bad _ _ _ _ _ _ (sym (c .before .before .before .before .before .list-after .ensures .answer) ∙ c .before .j .given .1))) in
+    let h = c .before .before .before .before .before .before .before .before .before .pre _
+    (sym (withList-bad _ _ _ _ _ _ (sym (c .before .before .before .before .before .list-after .ensures .answer)
+    ∙ c .before .j .given .1))) in
     omega arith
 
 same-length : tie.Need-same-length
 same-length c = search needs
 
 returns : tie.Need-returns
-returns c = (withList-all _ _ _ _ _ _ (sym (c .before .before .before .before .before .list-after .ensures .answer) ∙ c .before .n .given .1), c .before .before .before .before .before .list-after .ensures .words)
+returns c = (
+  withList-all _ _ _ _ _ _ (sym (c .before .before .before .before .before .list-after .ensures .answer)
+      ∙ c .before .n .given .1),
+  c .before .before .before .before .before .list-after .ensures .words,
+)
 
 same-length-2 : tie.Need-same-length-2
 same-length-2 c = search needs
 
 returns-2 : tie.Need-returns-2
-returns-2 c = (withList-bad _ _ _ _ _ _ (sym (c .before .before .before .before .before .list-after .ensures .answer) ∙ c .before .j .given .1), c .before .before .before .before .before .list-after .ensures .words)
+returns-2 c = (
+  withList-bad _ _ _ _ _ _ (sym (c .before .before .before .before .before .list-after .ensures .answer)
+      ∙ c .before .j .given .1),
+  c .before .before .before .before .before .list-after .ensures .words,
+)
 
 pub with-list-spec : {M : Type 1} → statement M
 with-list-spec =

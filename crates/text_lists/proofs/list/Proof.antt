@@ -1,5 +1,5 @@
--- `text_lists::list` meets its contract. The invariant is `At`: the entries seen are in the lent words, and what is left of the list still
--- gives the answer; each way on is one law of `At`.
+-- `text_lists::list` meets its contract. The invariant is `At`: the entries seen are in the lent words, and what is
+-- left of the list still gives the answer; each way on is one law of `At`.
 -- Assumes nothing.
 use Prim.Native.Nat.{_-_}
 use mathlib.Core.Path.{_≡_, sym, _∙_}
@@ -20,9 +20,13 @@ abbrev μ-loop : tie.MeasureT-loop
 μ-loop rest out₀ e₀ n₀ out e n = length rest - e
 
 -- an entry that was read: what `numberAt` says of it
-read : (c : tie.After-slice-known2 Inv-loop μ-loop) → let b = c .before .before .before .before .before .before .before .before .before in
-    numberAt (b .before .before .before .args .rest .now) (b .loop .e) ≡ S.Is (c .before .before .before .before .before .v .given .0 .0) (c .before .before .before .before .before .v .given .0 .1 .0)
-read c = sym (c .before .before .before .before .before .before .before .number-at .ensures) ∙ c .before .before .before .before .before .v .given .1
+read : (c : tie.After-slice-known2 Inv-loop μ-loop) → let b =
+    c .before .before .before .before .before .before .before .before .before in
+    numberAt (b .before .before .before .args .rest .now) (b .loop .e) ≡ S.Is
+    (c .before .before .before .before .before .v .given .0 .0)
+    (c .before .before .before .before .before .v .given .0 .1 .0)
+read c = sym (c .before .before .before .before .before .before .before .number-at .ensures)
+    ∙ c .before .before .before .before .before .v .given .1
 
 loop-holds : tie.Need-loop-holds Inv-loop μ-loop
 loop-holds c = at-start _ _
@@ -44,10 +48,15 @@ add-n c =
     search needs
 
 loop-less : tie.Need-loop-less Inv-loop μ-loop
-loop-less c = let p = numberAt-ends _ _ (c .before .before .before .before .before .before .before .before .loop-test .taken) _ _ (read c) in omega arith
+loop-less c = let p =
+    numberAt-ends _ _ (c .before .before .before .before .before .before .before .before .loop-test .taken) _ _
+    (read c) in omega arith
 
 loop-again : tie.Need-loop-again Inv-loop μ-loop
-loop-again c = rw (c .before .before .keep .ensures) (at-is _ _ _ _ _ (c .before .before .before .before .before .before .before .before .loop-test .taken) _ _ (c .before .before .before .before .before .before .before .before .before .loop .inv) (read c))
+loop-again c =
+    rw (c .before .before .keep .ensures)
+    (at-is _ _ _ _ _ (c .before .before .before .before .before .before .before .before .loop-test .taken) _ _
+    (c .before .before .before .before .before .before .before .before .before .loop .inv) (read c))
 
 enum-known-c : tie.Need-enum-known-c Inv-loop μ-loop
 enum-known-c c = search needs
@@ -56,7 +65,10 @@ same-length : tie.Need-same-length Inv-loop μ-loop
 same-length c = at-size _ _ _ _ _ (c .before .before .before .before .before .loop .inv)
 
 returns : tie.Need-returns Inv-loop μ-loop
-returns c = at-bad _ _ _ _ _ (c .before .before .before .before .loop-test .taken) _ (c .before .before .before .before .before .loop .inv) (sym (c .before .before .before .number-at .ensures) ∙ c .before .c .given .1)
+returns c =
+    at-bad _ _ _ _ _ (c .before .before .before .before .loop-test .taken) _
+    (c .before .before .before .before .before .loop .inv) (sym (c .before .before .before .number-at .ensures)
+    ∙ c .before .c .given .1)
 
 same-length-2 : tie.Need-same-length-2 Inv-loop μ-loop
 same-length-2 c = at-size _ _ _ _ _ (c .before .loop .inv)

@@ -1,4 +1,5 @@
--- `text_lists::list_after` meets its contract: the part of the line from `at` on is what `list` is handed, and past the line it is empty.
+-- `text_lists::list_after` meets its contract: the part of the line from `at` on is what `list` is handed, and past
+-- the line it is empty.
 -- Assumes nothing.
 use native.Mathlib.Omega.{arith}
 use Rattle.text_buffers.proofs.BufferLaws.{rest-lent}

@@ -30,18 +30,21 @@ enum-known-k c = search needs
 add-t13 : tie.Need-add-t13
 add-t13 c =
     let m = c .before .before .before in
-    let h = bad-within _ _ _ (m .before .before .if1 .left) (m .before .field-from .ensures) _ (sym (m .number .ensures) ∙ c .before .k .given .1) in
+    let h = bad-within _ _ _ (m .before .before .if1 .left) (m .before .field-from .ensures) _ (sym (m .number .ensures)
+    ∙ c .before .k .given .1) in
     search needs
 
 returns-2 : tie.Need-returns-2
 returns-2 c =
     let m = c .before .before .before in
-    sym (numberAt-is _ _ _ (m .before .before .if1 .left) (m .before .field-from .ensures) _ (sym (m .number .ensures) ∙ c .before .v .given .1))
+    sym (numberAt-is _ _ _ (m .before .before .if1 .left) (m .before .field-from .ensures) _ (sym (m .number .ensures)
+    ∙ c .before .v .given .1))
 
 returns-3 : tie.Need-returns-3
 returns-3 c =
     let m = c .before .before .before in
-    sym (numberAt-bad _ _ _ (m .before .before .if1 .left) (m .before .field-from .ensures) _ (sym (m .number .ensures) ∙ c .before .k .given .1))
+    sym (numberAt-bad _ _ _ (m .before .before .if1 .left) (m .before .field-from .ensures) _ (sym (m .number .ensures)
+    ∙ c .before .k .given .1))
 
 pub number-at-spec : {M : Type 1} → statement M
 number-at-spec =

@@ -29,14 +29,22 @@ unfolding pairAt withFirst withSecond
 returns c =
     let m = c .before .before .before in
     let l = m .before .before .before .before in
-    rw (sym (l .number-at .ensures) ∙ m .before .before .a .given .1, sym (m .number-at2 .ensures) ∙ c .before .b .given .1)
+    rw (
+      sym (l .number-at .ensures) ∙ m .before .before .a .given .1,
+      sym (m .number-at2 .ensures)
+          ∙ c .before .b .given .1,
+    )
 
 returns-2 : tie.Need-returns-2
 unfolding pairAt withFirst withSecond
 returns-2 c =
     let m = c .before .before .before in
     let l = m .before .before .before .before in
-    rw (sym (l .number-at .ensures) ∙ m .before .before .a .given .1, sym (m .number-at2 .ensures) ∙ c .before .k .given .1)
+    rw (
+      sym (l .number-at .ensures) ∙ m .before .before .a .given .1,
+      sym (m .number-at2 .ensures)
+          ∙ c .before .k .given .1,
+    )
 
 returns-3 : tie.Need-returns-3
 unfolding pairAt withFirst withSecond

@@ -1,4 +1,5 @@
--- `text_records::record_of` meets its contract: the line goes by its word (`by`), and each arm is the clause of `afterWord` for that word.
+-- `text_records::record_of` meets its contract: the line goes by its word (`by`), and each arm is the clause of
+-- `afterWord` for that word.
 -- Assumes nothing.
 use mathlib.Core.Path.{_≡_, sym, _∙_}
 use lib.ListN.{length}
@@ -38,16 +39,25 @@ enum-known-k-2 c = search needs
 
 -- after the word, whichever it is
 by : (c : tie.After-keyword-of) {v : Keyword} → c .keyword-of .result ≡ v
-    → recordOf (c .before .before .before .args .line .now) ≡ afterWord (c .before .before .before .args .line .now) (length (c .before .field-from .result .now)) v
+    → recordOf (c .before .before .before .args .line .now) ≡ afterWord (c .before .before .before .args .line .now)
+    (length (c .before .field-from .result .now)) v
 by c told = recordOf-by _ _ _ _ (c .before .field-from .ensures) (c .keyword-of .ensures) told
 
 returns : tie.Need-returns
 unfolding afterWord ofPair
-returns c = rw (by (c .before .before .before .before .before .before) (c .before .before .before .before .enum-told .given .1), sym (c .before .before .before .last-pair .ensures) ∙ c .before .a .given .1)
+returns c =
+    rw (
+      by (c .before .before .before .before .before .before) (c .before .before .before .before .enum-told .given .1),
+      sym (c .before .before .before .last-pair .ensures) ∙ c .before .a .given .1,
+    )
 
 returns-2 : tie.Need-returns-2
 unfolding afterWord ofPair
-returns-2 c = rw (by (c .before .before .before .before .before .before) (c .before .before .before .before .enum-told .given .1), sym (c .before .before .before .last-pair .ensures) ∙ c .before .k .given .1)
+returns-2 c =
+    rw (
+      by (c .before .before .before .before .before .before) (c .before .before .before .before .enum-told .given .1),
+      sym (c .before .before .before .last-pair .ensures) ∙ c .before .k .given .1,
+    )
 
 returns-3 : tie.Need-returns-3
 unfolding afterWord ofPair

@@ -1,4 +1,5 @@
--- `text_records::step_after` meets its contract: each arm is the clause of `afterKind` for what the kind takes. Assumes nothing.
+-- `text_records::step_after` meets its contract: each arm is the clause of `afterKind` for what the kind takes.
+-- Assumes nothing.
 use mathlib.Core.Path.{sym, _∙_}
 use Rattle.text_records.specs.Records.{ofPair, ofList, afterKind}
 use borrow.Author.Needs.{needs}
@@ -44,19 +45,43 @@ returns c = rw (← c .before .before .before .shape-of .ensures, c .before .enu
 
 returns-2 : tie.Need-returns-2
 unfolding afterKind ofPair ofList
-returns-2 c = rw (← c .before .before .before .before .before .before .shape-of .ensures, c .before .before .before .before .enum-told2 .given .1, sym (c .before .before .before .last-pair .ensures) ∙ c .before .a .given .1)
+returns-2 c =
+    rw (
+      ← c .before .before .before .before .before .before .shape-of .ensures,
+      c .before .before .before .before .enum-told2 .given .1,
+      sym (c .before .before .before .last-pair .ensures)
+          ∙ c .before .a .given .1,
+    )
 
 returns-3 : tie.Need-returns-3
 unfolding afterKind ofPair ofList
-returns-3 c = rw (← c .before .before .before .before .before .before .shape-of .ensures, c .before .before .before .before .enum-told2 .given .1, sym (c .before .before .before .last-pair .ensures) ∙ c .before .k .given .1)
+returns-3 c =
+    rw (
+      ← c .before .before .before .before .before .before .shape-of .ensures,
+      c .before .before .before .before .enum-told2 .given .1,
+      sym (c .before .before .before .last-pair .ensures)
+          ∙ c .before .k .given .1,
+    )
 
 returns-4 : tie.Need-returns-4
 unfolding afterKind ofPair ofList
-returns-4 c = rw (← c .before .before .before .before .before .before .shape-of .ensures, c .before .before .before .before .enum-told3 .given .1, sym (c .before .before .before .pair-at .ensures) ∙ c .before .a2 .given .1)
+returns-4 c =
+    rw (
+      ← c .before .before .before .before .before .before .shape-of .ensures,
+      c .before .before .before .before .enum-told3 .given .1,
+      sym (c .before .before .before .pair-at .ensures)
+          ∙ c .before .a2 .given .1,
+    )
 
 returns-5 : tie.Need-returns-5
 unfolding afterKind ofPair ofList
-returns-5 c = rw (← c .before .before .before .before .before .before .shape-of .ensures, c .before .before .before .before .enum-told3 .given .1, sym (c .before .before .before .pair-at .ensures) ∙ c .before .k2 .given .1)
+returns-5 c =
+    rw (
+      ← c .before .before .before .before .before .before .shape-of .ensures,
+      c .before .before .before .before .enum-told3 .given .1,
+      sym (c .before .before .before .pair-at .ensures)
+          ∙ c .before .k2 .given .1,
+    )
 
 pub step-after-spec : {M : Type 1} → statement M
 step-after-spec =

@@ -18,11 +18,19 @@ enum-known-k c = search needs
 
 returns : tie.Need-returns
 unfolding ofOne
-returns c = rw (sym (c .before .before .before .before .number-at .ensures) ∙ c .before .before .a .given .1, lt-ltb _ _ (c .if1 .taken))
+returns c =
+    rw (
+      sym (c .before .before .before .before .number-at .ensures) ∙ c .before .before .a .given .1,
+      lt-ltb _ _ (c .if1 .taken),
+    )
 
 returns-2 : tie.Need-returns-2
 unfolding ofOne
-returns-2 c = rw (sym (c .before .before .before .before .number-at .ensures) ∙ c .before .before .a .given .1, le-ltb _ _ (c .if1 .left))
+returns-2 c =
+    rw (
+      sym (c .before .before .before .before .number-at .ensures) ∙ c .before .before .a .given .1,
+      le-ltb _ _ (c .if1 .left),
+    )
 
 returns-3 : tie.Need-returns-3
 unfolding ofOne
