@@ -39,9 +39,9 @@ use Rattle.rules.proofs.SoundTest.{chain-bound}
 use Rattle.rules.proofs.Promises.{test-means-sound, refused-by-a-number-of-its-own, the-answer-counts-its-words}
 use Rattle.text_numbers.proofs.PrintLaws.{dec-six}
 use Rattle.text_writers.specs.Texts.{fieldsText, Every, no-more, one-more}
-use Rattle.text_writers.proofs.WriterLaws.{fieldsText-four}
+use Rattle.text_writers.proofs.WriterLaws.{fieldsText-four, every-append}
 use Rattle.answer_text.specs.AnswerText.{wordTable, lookedUp, wordFor, fieldsIn, fieldsOf, answerText}
-use Rattle.answer_text.proofs.ShownLaws.{fieldsOf-over, fieldsOf-length, fieldsOf-every, every-in, every-append}
+use Rattle.answer_text.proofs.ShownLaws.{fieldsOf-over, fieldsOf-length, fieldsOf-every, every-in}
 
 abbrev Low : ℕ → Type 0
 Low n = n < 1000

@@ -1,15 +1,16 @@
 -- Laws of `fieldsOf` for what an answer shows of the report: with enough words written at the report's start, the
 -- fields are the same as from these words alone, whatever the report held before; there are at most four more of them
--- than words; and they are as ofLines as the answer's own numbers and the words are.
+-- than words; and they are as small as the answer's own numbers and the words are.
 -- Assumes nothing.
 use Prim.Native.Nat.{ℕ, zero, suc, _+_, _-_, _≤_, min}
 use mathlib.Core.List.{List, [], _∷_, _++_}
 use mathlib.Core.Bool.{Bool, true, false, cond}
 use mathlib.Core.Path.{_≡_, refl, ap}
 use native.Mathlib.Omega.{arith}
-use lib.ListN.{length, take, drop, length-append, length-take, length-drop}
+use lib.ListN.{length, drop, length-append, length-take, length-drop}
 use Rattle.words.specs.Lists.{over, In, top, pop}
 use Rattle.text_writers.specs.Texts.{stretchOf, Every, no-more, one-more}
+use Rattle.text_writers.proofs.WriterLaws.{every-append, every-part, every-parted}
 use Rattle.rules.specs.Answers.{laid, numberOf, valueIn, valuesOf, wordCount}
 use Rattle.rules.specs.declared.Answer.{Answer}
 use Rattle.rules.specs.declared.Part.{Part}
@@ -80,27 +81,6 @@ module _ (P : ℕ → Type 0) where
   every-in [] h = no-more
   every-in (x ∷ xs) h = one-more (h x top) (every-in xs (λ y i. h y (pop i)))
 
-  pub every-append : {xs ys : List ℕ} → Every P xs → Every P ys → Every P (xs ++ ys)
-  every-append no-more b = b
-  every-append (one-more p a) b = one-more p (every-append a b)
-
-  every-take : (n : ℕ) {xs : List ℕ} → Every P xs → Every P (take n xs)
-  every-take zero a = no-more
-  every-take (suc n) no-more = no-more
-  every-take (suc n) (one-more p a) = one-more p (every-take n a)
-
-  every-drop : (n : ℕ) {xs : List ℕ} → Every P xs → Every P (drop n xs)
-  every-drop zero a = a
-  every-drop (suc n) no-more = no-more
-  every-drop (suc n) (one-more p a) = every-drop n a
-
-  every-part : (from n : ℕ) {ws : List ℕ} → Every P ws → Every P (stretchOf ws from n)
-  every-part from n a = every-take n (every-drop from a)
-
-  every-parted : (xs : List ℕ) {ys : List ℕ} → Every P (xs ++ ys) → Every P xs × Every P ys
-  every-parted [] a = (no-more, a)
-  every-parted (x ∷ xs) (one-more p a) = let (b, c) = every-parted xs a in (one-more p b, c)
-
   number-every : (b : Bool) (n : ℕ) → P n → Every P (numberShown b n)
   number-every true n p = one-more p no-more
   number-every false n p = no-more
@@ -110,7 +90,7 @@ module _ (P : ℕ → Type 0) where
     where
       go : (b : Bool) → Every P (cond b (p .value ∷ []) [])
           → Every P (cond b (p .value ∷ stretchOf ws from (p .words)) [])
-      go true (one-more q u) = one-more q (every-part from (p .words) w)
+      go true (one-more q u) = one-more q (every-part P from (p .words) w)
       go false u = no-more
 
   -- what holds of the answer's number, its values and the words holds of the fields
@@ -119,9 +99,9 @@ module _ (P : ℕ → Type 0) where
   unfolding fieldsIn
   fieldsOf-every a ws n v w =
       let l = laid a in
-      let (both, third) = every-parted (valueIn (l .first) ++ valueIn (l .second)) v in
-      let (first, second) = every-parted (valueIn (l .first)) both in
-      every-append
-      (every-append (every-append (number-every (l .refuses) (l .number) n) (shown-every (l .first) 0 first w))
+      let (both, third) = every-parted P (valueIn (l .first) ++ valueIn (l .second)) v in
+      let (first, second) = every-parted P (valueIn (l .first)) both in
+      every-append P
+      (every-append P (every-append P (number-every (l .refuses) (l .number) n) (shown-every (l .first) 0 first w))
       (shown-every (l .second) (l .first .words) second w))
       (shown-every (l .third) (l .first .words + l .second .words) third w)

@@ -13,12 +13,10 @@ use Rattle.text_fields.specs.Fields.{tab, runToTab, runTo}
 use Rattle.text_fields.proofs.FieldLaws.{firstField, firstField-front, firstField-rest}
 use Rattle.text_numbers.specs.Numbers.{largest, digitOf, digitsFrom, afterZero, numberIn, dec}
 use Rattle.text_numbers.specs.declared.Num.the-variants.{Is, Bad}
+use Rattle.text_numbers.proofs.NumberLaws.{never}
 use Rattle.text_numbers.proofs.PrintLaws.{numberIn-print, numberIn-printed}
 
 -- ---- numbers have no tab
-
-never : {k n : ℕ} {A : Type 0} → Is n ≡ Bad k → A
-never e = let z : _≡_ {A = ℕ} 0 1 = cc in absurd (omega arith)
 
 digit-no-tab : (b : ℕ) → digitOf b < 10 → b ≡ 9 → ⊥
 unfolding digitOf

@@ -12,6 +12,7 @@ use native.Mathlib.Decide.{decLt}
 use borrow.Author.Tests.{lt-ltb, le-ltb}
 use lib.ListN.{length, take, drop, length-drop, take-append-drop}
 use lib.Seq.{take-take, take-all, drop-drop, take-add, length-take-le}
+use Rattle.words.proofs.BoolLaws.{true-is-not-false}
 use Rattle.text_fields.specs.Fields.{runToTab, fieldEnd, fieldAt, runTo, endFrom}
 use Rattle.text_numbers.specs.Numbers.{largest, numberIn, dec}
 use Rattle.text_numbers.specs.declared.Num.{Num}
@@ -58,9 +59,6 @@ pub record At (L : List ℕ → Type 0) (s : List ℕ) (e : ℕ) (ok : ℕ → B
   pub to : (k : ℕ) (x : List ℕ) → ok k ≡ true → Numbers k x → L (take e s ++ x)
   pub from : (x : List ℕ) → runToTab x ≡ 0 → L (take e s ++ x) → (k : ℕ) × (ok k ≡ true) × Numbers k x
 
-true-false : {A : Type 0} (b : Bool) → b ≡ true → b ≡ false → A
-true-false b p q = let z : true ≡ false = sym p ∙ q in let y : _≡_ {A = ℕ} 0 1 = cc in absurd (omega arith)
-
 drop-tail : (s : List ℕ) (e : ℕ) (x : List ℕ) → drop e s ≡ 9 ∷ x → drop (e + 1) s ≡ x
 drop-tail s e x h = sym (drop-drop 1 e s) ∙ ap (λ (r : List ℕ). drop 1 r) h
 
@@ -80,7 +78,7 @@ module _ (L : List ℕ → Type 0) (s : List ℕ) (e : ℕ) (ok : ℕ → Bool) 
   }
     where
       no : (k : ℕ) × (ok k ≡ true) × Numbers k [] → ⊥
-      no (k, o, n) = true-false (ok 0) (subst (λ (i : ℕ). ok i ≡ true) (no-numbers k n) o) z
+      no (k, o, n) = true-is-not-false (sym (subst (λ (i : ℕ). ok i ≡ true) (no-numbers k n) o) ∙ z)
 
   module _ (h : e < length s) where
     abbrev rest : List ℕ
@@ -120,7 +118,7 @@ module _ (L : List ℕ → Type 0) (s : List ℕ) (e : ℕ) (ok : ℕ → Bool) 
     }
       where
         no : (x : List ℕ) → L (take e s ++ 9 ∷ x) → ⊥
-        no x l = let r = numbered x l in true-false (ok (suc (r .0))) (r .1) (z (r .0))
+        no x l = let r = numbered x l in true-is-not-false (sym (r .1) ∙ z (r .0))
 
         step : take (suc e) s ≡ take e s ++ 9 ∷ []
         step = let q : suc e ≡ e + 1 + 0 = omega arith in ap (λ (i : ℕ). take i s) q ∙ front 0

@@ -56,7 +56,7 @@ module _ (s : List ℕ) (v k i : ℕ) where
     digitsFrom-go n o = rw (add-one i, drop-cons s i 0, ← e, lt-ltb _ _ n, le-leb _ _ o)
 
 -- the place of a bad byte is within the field, or at its end
-never : {k n : ℕ} {A : Type 0} → Is n ≡ Bad k → A
+pub never : {k n : ℕ} {A : Type 0} → Is n ≡ Bad k → A
 never e = let z : _≡_ {A = ℕ} 0 1 = cc in absurd (omega arith)
 
 within-step : (b v k j : ℕ) (s : List ℕ) → (digitsFrom (v * 10 + digitOf b) (k + 1) s ≡ Bad j → j ≤ k + 1 + length s)

@@ -15,6 +15,7 @@ use Rattle.text_buffers.specs.Buffers.{Wrote, Added}
 use Rattle.text_buffers.proofs.BufferLaws.{wrote-none, wrote-added}
 use Rattle.text_numbers.specs.declared.Num.the-variants.{Is, Bad}
 use Rattle.text_numbers.specs.Numbers.{largest, digitOf, digitsFrom, afterZero, numberIn, decWithin, dec}
+use Rattle.text_numbers.proofs.NumberLaws.{never}
 
 lim : ℕ → ℕ
 lim zero = 1
@@ -83,9 +84,6 @@ byte-of b h = go (ltb b 48) refl (ltb 57 b) refl
     go false p true q = absurd (omega (arith, rw (p, q) at h))
     go false p false q = rw (p, q) (omega (arith, ltb-false b 48 p))
 
-never : {k n : ℕ} {A : Type 0} → Bad k ≡ Is n → A
-never e = let z : _≡_ {A = ℕ} 0 1 = cc in absurd (omega arith)
-
 fuel-step : (f n : ℕ) → (n / 10 < lim (suc f) → decWithin (suc f) (n / 10) ≡ decWithin (suc (suc f)) (n / 10))
     → Dec (n < 10)
     → n < lim (suc (suc f)) → decWithin (suc (suc f)) n ≡ decWithin (suc (suc (suc f))) n
@@ -112,8 +110,8 @@ prints-step : (b v k n : ℕ) (s : List ℕ)
     → (x : Bool) → ltb (digitOf b) 10 ≡ x → (y : Bool) → leb (v * 10 + digitOf b) largest ≡ y
     → 0 < v → v ≤ largest → digitsFrom v k (b ∷ s) ≡ Is n → (n ≤ largest) × (dec v ++ (b ∷ s) ≡ dec n)
 unfolding digitsFrom
-prints-step b v k n s ih false d y o p m e = never (rw d at e)
-prints-step b v k n s ih true d false o p m e = never (rw (d, o) at e)
+prints-step b v k n s ih false d y o p m e = never (sym (rw d at e))
+prints-step b v k n s ih true d false o p m e = never (sym (rw (d, o) at e))
 prints-step b v k n s ih true d true o p m e =
     let h = ltb-true (digitOf b) 10 d in
     let r = ih (rw (d, o) at e) (leb-true _ _ o) in (
@@ -132,7 +130,7 @@ prints (b ∷ s) v k n p m e =
 first-step : (b n : ℕ) (s : List ℕ) (x : Bool) → ltb (digitOf b) 10 ≡ x → (b ≡ 48 → ⊥) → digitsFrom 0 0 (b ∷ s) ≡ Is n
     → (n ≤ largest) × (b ∷ s ≡ dec n)
 unfolding digitsFrom dec
-first-step b n s false d z e = never (rw d at e)
+first-step b n s false d z e = never (sym (rw d at e))
 first-step b n s true d z e =
     let h = ltb-true (digitOf b) 10 d in
     let v : 0 * 10 + digitOf b ≡ digitOf b = omega arith in
@@ -149,11 +147,11 @@ numberIn-printed-step b n s true z e = zero-case s (rw z at e)
   where
     zero-case : (s : List ℕ) → afterZero s ≡ Is n → (n ≤ largest) × (b ∷ s ≡ dec n)
     zero-case [] e = let q : 0 ≡ n = cc in (omega arith, rw (← q, eqb-true b 48 z))
-    zero-case (a ∷ s) e = never e
+    zero-case (a ∷ s) e = never (sym e)
 
 pub numberIn-printed : (s : List ℕ) (n : ℕ) → numberIn s ≡ Is n → (n ≤ largest) × (s ≡ dec n)
 unfolding numberIn
-numberIn-printed [] n e = never e
+numberIn-printed [] n e = never (sym e)
 numberIn-printed (b ∷ s) n e = numberIn-printed-step b n s (eqb b 48) refl e
 
 -- ---- the printed form, by its last digit

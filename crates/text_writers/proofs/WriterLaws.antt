@@ -57,23 +57,27 @@ stretchOf-slice s from n e q = go n (drop from s) (e - from) (rw length-drop (om
 
 -- ---- a property of every number
 
--- from that of each place
-pub every-of : (P : ℕ → Type 0) (ns : List ℕ) → ((i : ℕ) → i < length ns → P (getD ns i 0)) → Every P ns
-every-of P [] h = no-more
-every-of P (n ∷ ns) h = one-more (h 0 (omega arith)) (every-of P ns (λ i l. h (suc i) (omega arith)))
+module _ (P : ℕ → Type 0) where
+  pub every-append : {xs ys : List ℕ} → Every P xs → Every P ys → Every P (xs ++ ys)
+  every-append no-more b = b
+  every-append (one-more p a) b = one-more p (every-append a b)
 
-pub every-drop : {P : ℕ → Type 0} (i : ℕ) (ns : List ℕ) → Every P ns → Every P (drop i ns)
-every-drop zero ns a = a
-every-drop (suc i) [] a = no-more
-every-drop (suc i) (n ∷ ns) (one-more p a) = every-drop i ns a
+  every-take : (n : ℕ) {xs : List ℕ} → Every P xs → Every P (take n xs)
+  every-take zero a = no-more
+  every-take (suc n) no-more = no-more
+  every-take (suc n) (one-more p a) = one-more p (every-take n a)
 
-pub every-take : {P : ℕ → Type 0} (i : ℕ) (ns : List ℕ) → Every P ns → Every P (take i ns)
-every-take zero ns a = no-more
-every-take (suc i) [] a = no-more
-every-take (suc i) (n ∷ ns) (one-more p a) = one-more p (every-take i ns a)
+  every-drop : (n : ℕ) {xs : List ℕ} → Every P xs → Every P (drop n xs)
+  every-drop zero a = a
+  every-drop (suc n) no-more = no-more
+  every-drop (suc n) (one-more p a) = every-drop n a
 
-pub every-part : {P : ℕ → Type 0} (ns : List ℕ) (from k : ℕ) → Every P ns → Every P (stretchOf ns from k)
-every-part ns from k a = every-take k (drop from ns) (every-drop from ns a)
+  pub every-part : (from n : ℕ) {ws : List ℕ} → Every P ws → Every P (stretchOf ws from n)
+  every-part from n a = every-take n (every-drop from a)
+
+  pub every-parted : (xs : List ℕ) {ys : List ℕ} → Every P (xs ++ ys) → Every P xs × Every P ys
+  every-parted [] a = (no-more, a)
+  every-parted (x ∷ xs) (one-more p a) = let (b, c) = every-parted xs a in (one-more p b, c)
 
 -- ---- how many bytes there are
 
