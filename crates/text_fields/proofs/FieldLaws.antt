@@ -11,7 +11,7 @@ use native.Mathlib.Numerals.{add-one}
 use borrow.Author.Tests.{eq-eqb, ne-eqb, eqb-true, lt-ltb, le-ltb}
 use lib.ListN.{length, take, drop, getD, length-drop, drop-of-length-le}
 use lib.Seq.{drop-cons, length-take-le, take-append-seam, drop-append-seam}
-use Rattle.text_fields.specs.Fields.{tab, runTo, endFrom, runToTab, fieldEnd, fieldAt, nextStart}
+use Rattle.text_fields.specs.Fields.{tab, runTo, endFrom, runToTab, fieldEnd, fieldAt, nextStart, partStart}
 
 -- ---- runs, at a place of a line
 
@@ -147,6 +147,15 @@ fieldEnd-bounds s a e q h = (omega (arith, fieldEnd-from s a), omega (arith, fie
 pub fieldEnd-past : (s : List ℕ) (a : ℕ) → length s ≤ a → fieldEnd s a ≡ a
 unfolding fieldEnd endFrom
 fieldEnd-past s a h = rw (runTo-end tab s a h) (omega arith)
+
+-- where the part that is handed back starts
+pub partStart-past : (s : List ℕ) (a : ℕ) → length s < a → partStart s a ≡ 0
+unfolding partStart
+partStart-past s a h = rw (lt-ltb (length s) a h)
+
+pub partStart-is : (s : List ℕ) (a : ℕ) → a ≤ length s → partStart s a ≡ a
+unfolding partStart
+partStart-is s a h = rw (le-ltb (length s) a h)
 
 -- ---- the next field
 

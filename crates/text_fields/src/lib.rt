@@ -2,7 +2,7 @@
 // empty (a line that ends in a tab has such a last field); n + 1 is the start of no field, and says that there are no
 // more.
 ghost use mathlib.Core.Path.{_≡_};
-ghost use Rattle.text_fields.specs.Fields.{endFrom, fieldEnd, fieldAt, nextStart};
+ghost use Rattle.text_fields.specs.Fields.{endFrom, fieldEnd, nextStart, FieldOf};
 
 // Where the bytes from `at` on come to the byte `stop`, or to the end.
 pub fn run_end(bytes: &[u8], at: usize, stop: u8) -> usize
@@ -27,7 +27,7 @@ pub fn field_end(line: &[u8], at: usize) -> usize
 
 // The field that starts at `at`, as that part of the line. Past the line there is none, and the part is empty.
 pub fn field(line: &[u8], at: usize) -> &[u8]
-    ensures { λ r. ⌜ now r ≡ fieldAt (now (line .entry)) at ⌝ }
+    ensures { λ r. ⌜ FieldOf (line .entry) at r ⌝ }
 {
     if line.len() < at {
         return &line[0..0];

@@ -11,9 +11,9 @@ use lib.Dec.{eqb}
 use lib.ListN.{length, take, drop, take-append-drop}
 use lib.Seq.{take-take, length-take-le}
 use Rattle.words.proofs.BoolLaws.{true-is-not-false}
-use Rattle.text_fields.specs.Fields.{tab, runToTab, fieldEnd, fieldAt, runTo, endFrom}
+use Rattle.text_fields.specs.Fields.{tab, runToTab, fieldEnd, fieldAt, nextStart, runTo, endFrom}
 use Rattle.text_fields.proofs.FieldLaws.{firstField, runToTab-most, runToTab-afterField, firstField-front}
-use Rattle.text_fields.proofs.FieldLaws.{firstField-rest}
+use Rattle.text_fields.proofs.FieldLaws.{firstField-rest, nextStart-is}
 use Rattle.text_keywords.specs.Keywords.{On, StopsAt, textOf, keywords, keywordOf}
 use Rattle.step_kinds.specs.Kinds.{shapeOf}
 use Rattle.step_kinds.specs.declared.Kind.the-variants as K
@@ -24,7 +24,7 @@ use Rattle.text_keywords.specs.declared.Keyword.the-variants as W
 use Rattle.text_keywords.proofs.Theorems.{open-on, step-on, proper, keywordOf-text, keywordOf-is, keywordOf-other}
 use Rattle.text_forms.specs.Forms.{takesShape, takes, BadAt}
 use Rattle.text_forms.proofs.Parsed.{Numbers, Parsed}
-use Rattle.text_forms.proofs.Place.{At, zeros, numbers-tabbed}
+use Rattle.text_forms.proofs.Place.{At, Over, zeros, numbers-tabbed}
 
 -- ---- the table: what a new word has to answer to
 
@@ -103,10 +103,10 @@ first-field s w rest e z = ap firstField e ∙ firstField-front (textOf w) rest 
 parsed-field : (s : List ℕ) (f : Parsed s) → firstField s ≡ textOf (f .word)
 parsed-field s f = first-field s (f .word) (f .rest) (f .text) (numbers-tabbed (f .count) (f .rest) (f .numbers))
 
-pub word-well : (s : List ℕ) (w : Keyword) (n : ℕ) → takes w n ≡ true → keywordOf (fieldAt s 0) ≡ w
-    → At Parsed s (fieldEnd s 0) (takes w)
+word-over : (s : List ℕ) (w : Keyword) (n : ℕ) → takes w n ≡ true → keywordOf (fieldAt s 0) ≡ w
+    → Over Parsed s (fieldEnd s 0) (takes w)
 unfolding fieldEnd endFrom fieldAt
-word-well s w n t e = record {
+word-over s w n t e = record {
   within = omega (arith, runToTab-most s);
   tabbed = ap (λ (i : ℕ). runToTab (drop i s)) zero-plus ∙ runToTab-afterField s;
   to = λ k x o m. record {
@@ -144,6 +144,10 @@ word-well s w n t e = record {
           subst (λ (u : Keyword). takes u (f .count) ≡ true) v (f .taken),
           subst (Numbers (f .count)) (sym r) (f .numbers),
         )
+
+pub word-well : (s : List ℕ) (w : Keyword) (n : ℕ) → takes w n ≡ true → keywordOf (fieldAt s 0) ≡ w
+    → At Parsed s (nextStart s 0) (takes w)
+word-well s w n t e = record { e = fieldEnd s 0; next = nextStart-is s 0 (omega arith); over = word-over s w n t e }
 
 pub word-bad : (s : List ℕ) (k : ℕ) → keywordOf (fieldAt s 0) ≡ W.Other k → BadAt Parsed s k
 unfolding fieldAt

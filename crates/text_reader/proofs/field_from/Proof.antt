@@ -3,7 +3,7 @@
 -- local of a body MIR erases the lifetime of the struct's type, so the value is shown to have the type at `erased`:
 -- what the struct owns does not say the lifetime's name.
 -- Assumes nothing.
-use mathlib.Core.Path.{_≡_, refl, ap, _∙_}
+use mathlib.Core.Path.{_≡_, refl, subst}
 use Prim.Native.Nat.{ℕ, _<_, _^_}
 use mathlib.Core.List.{List, [], _∷_}
 use lib.ListN.{length}
@@ -28,7 +28,7 @@ use denote.RattleType.{RattleType, owns}
 use denote.Laws.{Is, shows}
 use denote.Plain.{uint-makes, uint-vals, uint-tells}
 use denote.Builtin.{u8, usize}
-use denote.Ref.{RefT, NamedLft, now}
+use denote.Ref.{RefT, NamedLft}
 use denote.Signature.{plain, namedLft}
 use denote.Slice.{sliceVal, ShrSlice, slice-vals, shr-slice-tells, shr-slice-lawful, shr-slice-copy}
 use denote.Steps.{owned, peeks, heard, nothing}
@@ -42,7 +42,7 @@ use denote.Triple.Walked.{says, Stays, stay-none, stay-none-slice, walkOf, goes-
 use denote.Triple.Walked.{walked, walk-meets}
 use denote.Exit.{yes}
 use denote.Triple.Clauses.{ensured, lasts}
-use Rattle.text_fields.specs.Fields.{fieldAt}
+use Rattle.text_fields.specs.Fields.{FieldOf}
 use Rattle.text_reader.specs.declared.Reader.{Reader}
 use Rattle.text_reader.proofs.Reader as T
 use Rattle.text_reader.proofs.Reader.Laws as T′
@@ -84,8 +84,9 @@ module _ {M : Type 1} (𝓤 : URA M) (H : Heap 𝓤) (A : Atoms 𝓤) (W : Given
   abbrev Sl : RattleType
   Sl = ShrSlice (named 0) κ u8
 
-  abbrev found : List ℕ
-  found = fieldAt (now s) n
+  -- what is promised of a result
+  abbrev Found : RefT (List ℕ) → Type 0
+  Found t = FieldOf s n t
 
   abbrev at : Vals field-from.signature (κ, tt)
   at = (v ∷ [], (vint w64 n ∷ [], tt))
@@ -105,7 +106,7 @@ module _ {M : Type 1} (𝓤 : URA M) (H : Heap 𝓤) (A : Atoms 𝓤) (W : Given
   abbrev Own : Fml
   Own = ShrSlice (named 0) κ u8 .own s (v ∷ [])
 
-  -- the call of `new`: what it is passed, what it asks, and what is known of its result
+  -- the call of `starting`: what it is passed, what it asks, and what is known of its result
   abbrev to-starting : Starts 𝓤 H A mem run .Ghost
   to-starting = (((κ, tt), (q, tt), tt, (s, (n, tt)), at), tt)
 
@@ -129,7 +130,7 @@ module _ {M : Type 1} (𝓤 : URA M) (H : Heap 𝓤) (A : Atoms 𝓤) (W : Given
       exE 𝓤 _ (λ ws. snd∗ 𝓤 (sem 𝓤 H A (lasts starting.ended (κ, tt) (s, (n, tt)) ws))
       (fact 𝓤 ((r .line ≡ s) × (r .at ≡ n))))
 
-  -- the call of `number`, at the struct r with the machine value u
+  -- the call of `field`, at the struct r with the machine value u
   abbrev to-field : Reader → Val → Hands 𝓤 H A mem run .Ghost
   to-field r u = (((κ, tt), (q, tt), tt, (r, tt), (u ∷ [], tt)), tt)
 
@@ -140,12 +141,12 @@ module _ {M : Type 1} (𝓤 : URA M) (H : Heap 𝓤) (A : Atoms 𝓤) (W : Given
 
   field-said : (r : Reader) (t : RefT (List ℕ))
       → ent 𝓤 (ensured 𝓤 H A field.ended (field.clauses 𝓤 H A mem run) (κ, tt) (r, tt) tt t)
-      (fact 𝓤 (now t ≡ fieldAt (now (r .line)) (r .at)))
+      (fact 𝓤 (FieldOf (r .line) (r .at) t))
   field-said r t =
       exE 𝓤 _ (λ ws. snd∗ 𝓤 (sem 𝓤 H A (lasts field.ended (κ, tt) (r, tt) ws))
-      (fact 𝓤 (now t ≡ fieldAt (now (r .line)) (r .at))))
+      (fact 𝓤 (FieldOf (r .line) (r .at) t)))
 
-  exits : (t : RefT (List ℕ)) (u : Val) → now t ≡ found
+  exits : (t : RefT (List ℕ)) (u : Val) → Found t
       → ent 𝓤 (⋆ 𝓤 H A (‵ (Sl .own t (u ∷ [])) ∷ (‵ (flft κ q) ⊛ ‵ ftrue) ∷ ‵ Kept ∷ [])) (Post u)
   exits t u e =
       qed W (‵ (Sl .own t (u ∷ [])) ∷ (‵ (flft κ q) ⊛ ‵ ftrue) ∷ ‵ Kept ∷ []) ∵
@@ -186,16 +187,16 @@ module _ {M : Type 1} (𝓤 : URA M) (H : Heap 𝓤) (A : Atoms 𝓤) (W : Given
         (some (λ (t : RefT (List ℕ)). ((‵ (flft κ q) ⊛ ‵ ftrue) ⊛ ‵ (Sl .own t (u′ ∷ []))) ⊛ raw
         (ensured 𝓤 H A field.ended (field.clauses 𝓤 H A mem run) (κ, tt) (r, tt) tt t))))
         (id⊢ 𝓤 _) $ await ! tt $ pick ! (λ t.
-        split ! $ move ! (1 ∷ []) $ use1 W (raw (fact 𝓤 (now t ≡ fieldAt (now (r .line)) (r .at)))) (field-said r t) $
-        heard ! (now t ≡ fieldAt (now (r .line)) (r .at)) (λ e′. split ! $ move ! (1 ∷ []) $
+        split ! $ move ! (1 ∷ []) $ use1 W (raw (fact 𝓤 (FieldOf (r .line) (r .at) t))) (field-said r t) $
+        heard ! (FieldOf (r .line) (r .at) t) (λ e′. split ! $ move ! (1 ∷ []) $
         -- [the result; the token; what the parameters own; _3; …; _2; …; _1; …; room for _0; …]
         peeks ! Sl (Is Sl) (shows 𝓤 H A Sl) t (u′ ∷ []) (λ is′.
         land ! (from ! (stop !)) (init ! 9 refl (shr-slice-lawful 𝓤 H A W (named 0) κ u8 .typed t _ is′ .0)) $
         returns ! (look ! 9 refl) $ forget ! 3 refl $ forget ! 5 refl $ forget ! 7 refl $ forget ! 9 refl $
         move ! (9 ∷ 10 ∷ []) $ free1 ! $ move ! (7 ∷ 8 ∷ []) $ free1 ! $ move ! (5 ∷ 6 ∷ []) $ free1 ! $
         move ! (3 ∷ 4 ∷ []) $ free1 ! $ free0 ! $
-        by ! (exits t u′ (e′
-        ∙ (ap (λ (x : RefT (List ℕ)). fieldAt (now x) (r .at)) (e .0) ∙ ap (fieldAt (now s)) (e .1))))))))))))))))
+        by ! (exits t u′ (subst (λ (x : RefT (List ℕ)). FieldOf x n t) (e .0)
+        (subst (λ (i : ℕ). FieldOf (r .line) i t) (e .1) e′)))))))))))))))
 
 module _ {M : Type 1} (𝓤 : URA M) (H : Heap 𝓤) (A : Atoms 𝓤) (W : Given 𝓤 H A) (mem : Memory → SProp 𝓤)
     (run : Routine → Fun 𝓤) where
