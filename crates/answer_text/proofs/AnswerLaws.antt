@@ -1,5 +1,5 @@
--- Laws for the text of an answer: one text after another from any place of a buffer on, the fields of two lists, and the
--- line from its five parts. Each is an equation of lists; nothing is said of code.
+-- Laws for the text of an answer: one text after another from any place of a buffer on, the fields of two lists, and
+-- the line from its five parts. Each is an equation of lists; nothing is said of code.
 -- Assumes nothing.
 use Prim.Native.Nat.{ℕ, _<_}
 use mathlib.Core.List.{List, [], _∷_, _++_, append-assoc, append-nil}
@@ -40,7 +40,8 @@ parted {s} {o} {x} {at} {m} a = go (decLt (length o) at)
         let d : drop at o ≡ [] = drop-of-length-le o {i = at} (omega arith) in
         let e : f ≡ [] = rw d (fitting-full s [] refl) in
         let l : m ≡ at = a .end ∙ rw e (omega arith) in
-        let w : x ≡ o = whole ∙ rw (e, d, append-nil (take at o), append-nil (take at o), take-all at o (omega arith)) in
+        let w : x ≡ o =
+        whole ∙ rw (e, d, append-nil (take at o), append-nil (take at o), take-all at o (omega arith)) in
         (rw (w, l, e, append-nil), rw (w, l, e, d))
     go (no h) =
         let l : m ≡ length (take at o ++ f) = a .end ∙ rw (length-append, length-take) (omega arith) in
@@ -53,7 +54,9 @@ added-added {s} {t} {o} {x} {y} {at} {m} {r} a b =
     record {
       end = rw (fitting-append s t (drop at o), length-append) (b .end ∙ rw (q, a .end) (omega arith));
       text = rw (fitting-append s t (drop at o))
-          (b .text ∙ rw (p, q) (append-assoc (take at o) f _ ∙ ap (λ (z : List ℕ). take at o ++ z) (over-over f (fitting t (drop (length f) (drop at o))) (drop at o))));
+          (b .text ∙ rw (p, q) (append-assoc (take at o) f _
+          ∙ ap (λ (z : List ℕ). take at o ++ z)
+          (over-over f (fitting t (drop (length f) (drop at o))) (drop at o))));
     }
 
 -- ---- fields
@@ -69,16 +72,20 @@ fieldsText-one n = append-nil (fieldText n)
 pub fieldsText-append : (ms ns : List ℕ) → fieldsText (ms ++ ns) ≡ fieldsText ms ++ fieldsText ns
 unfolding fieldsText
 fieldsText-append [] ns = refl
-fieldsText-append (m ∷ ms) ns = rw (fieldsText-append ms ns) (sym (append-assoc (fieldText m) (fieldsText ms) (fieldsText ns)))
+fieldsText-append (m ∷ ms) ns =
+    rw (fieldsText-append ms ns) (sym (append-assoc (fieldText m) (fieldsText ms) (fieldsText ns)))
 
 -- ---- the whole line
 
 -- its five parts, each written after the one before
-pub answer-wrote : (n : ℕ) (a : Answer) (rs : List ℕ) {l : Layout} {o x y z v w : List ℕ} {d t k e r : ℕ} → l ≡ laid a → Wrote (dec n) o x d → Added (tab ∷ []) x d y t
-    → Added (wordFor (l .refuses) (l .number)) y t z k → Added (fieldsText (fieldsIn l rs)) z k v e → Added (lineEnd ∷ []) v e w r → Wrote (answerText n a rs) o w r
+pub answer-wrote : (n : ℕ) (a : Answer) (rs : List ℕ) {l : Layout} {o x y z v w : List ℕ} {d t k e r : ℕ} → l ≡ laid a
+    → Wrote (dec n) o x d → Added (tab ∷ []) x d y t
+    → Added (wordFor (l .refuses) (l .number)) y t z k → Added (fieldsText (fieldsIn l rs)) z k v e
+    → Added (lineEnd ∷ []) v e w r → Wrote (answerText n a rs) o w r
 unfolding answerText
 answer-wrote n a rs {l} {o} {x} {y} {z} {v} {w} {d} {t} {k} {e} {r} its-layout digits tab-after word fields end =
-    subst (λ (text : List ℕ). Wrote text o w r) (joined ∙ rw its-layout refl) (wrote-added (wrote-added (wrote-added (wrote-added digits tab-after) word) fields) end)
+    subst (λ (text : List ℕ). Wrote text o w r) (joined ∙ rw its-layout refl)
+    (wrote-added (wrote-added (wrote-added (wrote-added digits tab-after) word) fields) end)
   where
     its-word : List ℕ
     its-word = wordFor (l .refuses) (l .number)
@@ -86,7 +93,8 @@ answer-wrote n a rs {l} {o} {x} {y} {z} {v} {w} {d} {t} {k} {e} {r} its-layout d
     its-fields : List ℕ
     its-fields = fieldsText (fieldsIn l rs)
 
-    joined : dec n ++ tab ∷ [] ++ its-word ++ its-fields ++ lineEnd ∷ [] ≡ dec n ++ (tab ∷ (its-word ++ its-fields ++ lineEnd ∷ []))
+    joined : dec n ++ tab ∷ [] ++ its-word ++ its-fields ++ lineEnd ∷ [] ≡ dec n
+        ++ (tab ∷ (its-word ++ its-fields ++ lineEnd ∷ []))
     joined =
         ap (λ (text : List ℕ). text ++ lineEnd ∷ []) (append-assoc (dec n ++ tab ∷ []) its-word its-fields)
         ∙ append-assoc (dec n ++ tab ∷ []) (its-word ++ its-fields) (lineEnd ∷ [])

@@ -1,8 +1,10 @@
--- The text of an answer. Paper: 01, "Lines", "Answer fields", and "the answer's first field is the line number"; 02, 3/13.
+-- The text of an answer. Paper: 01, "Lines", "Answer fields", and "the answer's first field is the line number"; 02,
+-- 3/13.
 --
 --   openedText, ..       the words of the answers
 --   wordOf a             the word of the answer a, by its layout (`laid` of `rules`)
---   fieldsOf a rs        the numbers after it: the number of a refusal, and each value with its words; rs is the report, whose first words are the answer's own
+--   fieldsOf a rs        the numbers after it: the number of a refusal, and each value with its words; rs is the
+--                        report, whose first words are the answer's own
 --   answerText n a rs    the whole answer line of line n, with its LF
 -- Assumes nothing.
 use Prim.Native.Nat.{ℕ, _+_}
@@ -17,7 +19,8 @@ use Rattle.rules.specs.declared.Answer.{Answer}
 use Rattle.rules.specs.declared.Part.{Part}
 use Rattle.rules.specs.declared.Layout.{Layout}
 
--- "`opened`; `made`; `set n tasks..`; `value`; `blamed b`; `waits k`; `cycle k pairs..`; `started`; `ended m promises.. n tasks..`; `refused r`"
+-- "`opened`; `made`; `set n tasks..`; `value`; `blamed b`; `waits k`; `cycle k pairs..`; `started`; `ended m
+-- promises.. n tasks..`; `refused r`"
 abbrev pub openedText : List ℕ
 openedText = 111 ∷ 112 ∷ 101 ∷ 110 ∷ 101 ∷ 100 ∷ []
 

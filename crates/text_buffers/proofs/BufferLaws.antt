@@ -1,5 +1,5 @@
--- Laws of specs/Buffers.antt: what room does, how one text follows another, and what a writer that is lent the rest of a
--- buffer makes of the whole. Each is an equation of lists; nothing is said of loops.
+-- Laws of specs/Buffers.antt: what room does, how one text follows another, and what a writer that is lent the rest
+-- of a buffer makes of the whole. Each is an equation of lists; nothing is said of loops.
 -- Assumes nothing.
 use Prim.Native.Nat.{ℕ, zero, suc, _+_, _-_, _≤_, _<_}
 use mathlib.Core.List.{List, [], _∷_, _++_, append-assoc, append-nil}
@@ -9,7 +9,8 @@ use native.Mathlib.Decide.{decLt}
 use native.Mathlib.Numerals.{add-one}
 use native.Mathlib.Nat.{sub-zero, suc-sub-suc}
 use lib.ListN.{length, take, drop, set, length-append, length-take, length-drop, drop-of-length-le}
-use lib.Seq.{length-take-le, set-out, take-all, take-nil, take-append-seam, drop-append-seam, drop-drop, set-split, drop-cons, set-append-seam, append-snoc}
+use lib.Seq.{length-take-le, set-out, take-all, take-nil, take-append-seam, drop-append-seam, drop-drop, set-split}
+use lib.Seq.{drop-cons, set-append-seam, append-snoc}
 use borrow.Rule.Slice.PartMut.{putMid}
 use Rattle.words.specs.Lists.{over}
 use Rattle.words.proofs.ListLaws.{over-length}
@@ -76,7 +77,8 @@ fitting-past s t o h =
     rw (fitting-append, d, fitting-full t [] refl, append-nil)
 
 -- a word after a text, where there is room for it and where there is none
-pub over-fitting-snoc : (t o : List ℕ) (v : ℕ) → set (over (fitting t o) o) (length t) v ≡ over (fitting (t ++ (v ∷ [])) o) o
+pub over-fitting-snoc : (t o : List ℕ) (v : ℕ)
+    → set (over (fitting t o) o) (length t) v ≡ over (fitting (t ++ (v ∷ [])) o) o
 over-fitting-snoc t o v = go (decLt (length t) (length o))
   where
     go : Dec (length t < length o) → set (over (fitting t o) o) (length t) v ≡ over (fitting (t ++ (v ∷ [])) o) o
@@ -86,7 +88,8 @@ over-fitting-snoc t o v = go (decLt (length t) (length o))
         rw (f, g) (over-snoc t o v h)
     go (no h) =
         let k : length o ≤ length t = omega arith in
-        let l : length (over (fitting t o) o) ≤ length t = omega (arith, over-length (fitting t o) o (fitting-most t o)) in
+        let l : length (over (fitting t o) o) ≤ length t =
+        omega (arith, over-length (fitting t o) o (fitting-most t o)) in
         rw (fitting-past t (v ∷ []) o k) (set-out (over (fitting t o) o) (length t) v l)
 
 -- ---- the front of a buffer
@@ -103,7 +106,8 @@ wrote-most {t} {o} w = omega (arith, w .count, fitting-most t o)
 
 -- with room, the whole text
 pub wrote-room : {t o x : List ℕ} {r : ℕ} → Wrote t o x r → length t ≤ length o → (r ≡ length t) × (x ≡ over t o)
-wrote-room {t} {o} w h = let f = fitting-room t o h in (w .count ∙ ap length f, w .text ∙ ap (λ (s : List ℕ). over s o) f)
+wrote-room {t} {o} w h = let f = fitting-room t o h in
+    (w .count ∙ ap length f, w .text ∙ ap (λ (s : List ℕ). over s o) f)
 
 -- ---- from a place on
 
@@ -157,10 +161,12 @@ rest-lent x at = take-all (length x - at) (drop at x) (rw length-drop (omega ari
 pub added-lent : (t x p : List ℕ) (at r : ℕ) → Wrote t (take (length x - at) (drop at x)) p r
     → Added t x at (putMid at (length x - at) x p) (at + r)
 added-lent t x p at r w =
-    let z : drop (length x - at) (drop at x) ≡ [] = drop-of-length-le (drop at x) {i = length x - at} (rw length-drop (omega arith)) in
+    let z : drop (length x - at) (drop at x) ≡ [] =
+    drop-of-length-le (drop at x) {i = length x - at} (rw length-drop (omega arith)) in
     let q = rest-lent x at in
     record { end = ap (λ (n : ℕ). at + n) (w .count) ∙ rw q; text = rw (z, append-nil, w .text, q) }
 
 -- and stays within it
-pub lent-most : (t x p : List ℕ) (at r : ℕ) → Wrote t (take (length x - at) (drop at x)) p r → at ≤ length x → at + r ≤ length x
+pub lent-most : (t x p : List ℕ) (at r : ℕ) → Wrote t (take (length x - at) (drop at x)) p r → at ≤ length x
+    → at + r ≤ length x
 lent-most t x p at r w h = added-most (added-lent t x p at r w) h

@@ -1,5 +1,6 @@
-// A lent buffer that a text is written into, byte by byte. A text that is longer than the buffer is cut at the buffer's end, so that
-// writing needs no leave: whoever lends enough room has the whole text (`wrote-room`, `added-room`).
+// A lent buffer that a text is written into, byte by byte. A text that is longer than the buffer is cut at the
+// buffer's end, so that writing needs no leave: whoever lends enough room has the whole text (`wrote-room`,
+// `added-room`).
 ghost use mathlib.Core.List.{[], _∷_};
 ghost use Rattle.text_buffers.specs.Buffers.{Added};
 

@@ -1,5 +1,5 @@
--- Laws of specs/Fields.antt: how a run of bytes without a tab goes on, ends, and stands before another list; the part of a line
--- that is a field; and where fields end and start.
+-- Laws of specs/Fields.antt: how a run of bytes without a tab goes on, ends, and stands before another list; the part
+-- of a line that is a field; and where fields end and start.
 -- Assumes nothing.
 use Prim.Native.Nat.{ℕ, suc, _+_, _-_, _≤_, _<_}
 use mathlib.Core.List.{List, [], _∷_, _++_}
@@ -11,7 +11,7 @@ use native.Mathlib.Numerals.{add-one}
 use borrow.Author.Tests.{eq-eqb, ne-eqb, eqb-true, lt-ltb, le-ltb}
 use lib.ListN.{length, take, drop, getD, length-drop, drop-of-length-le}
 use lib.Seq.{drop-cons, length-take-le, take-append-seam, drop-append-seam}
-use Rattle.text_fields.specs.Fields.{tab, runTo, endFrom, runToTab, fieldEnd, fieldAt, nextStart}
+use Rattle.text_fields.specs.Fields.{tab, runTo, endFrom, runToTab, fieldEnd, fieldAt, nextStart, partStart}
 
 -- ---- runs, at a place of a line
 
@@ -52,7 +52,9 @@ unfolding runTo
 runToTab-append [] x h = omega arith
 runToTab-append (b ∷ f) x h = go (eqb b tab) refl h (runToTab-append f x)
   where
-    go : (z : Bool) → eqb b tab ≡ z → runToTab (b ∷ f) ≡ suc (length f) → (runToTab f ≡ length f → runToTab (f ++ x) ≡ length f + runToTab x) → runToTab (b ∷ (f ++ x)) ≡ suc (length f) + runToTab x
+    go : (z : Bool) → eqb b tab ≡ z → runToTab (b ∷ f) ≡ suc (length f)
+        → (runToTab f ≡ length f → runToTab (f ++ x) ≡ length f + runToTab x)
+        → runToTab (b ∷ (f ++ x)) ≡ suc (length f) + runToTab x
     go true p q ih = absurd (omega (arith, rw p at q))
     go false p q ih = rw p (omega (arith, ih (omega (arith, rw p at q))))
 
@@ -66,7 +68,8 @@ unfolding runTo
 runToTab-firstField [] = refl
 runToTab-firstField (b ∷ r) = go (eqb b tab) refl (runToTab-firstField r)
   where
-    go : (z : Bool) → eqb b tab ≡ z → runToTab (firstField r) ≡ length (firstField r) → runToTab (firstField (b ∷ r)) ≡ length (firstField (b ∷ r))
+    go : (z : Bool) → eqb b tab ≡ z → runToTab (firstField r) ≡ length (firstField r)
+        → runToTab (firstField (b ∷ r)) ≡ length (firstField (b ∷ r))
     go true p ih = rw p
     go false p ih = rw (p, p) (ap suc ih)
 
@@ -75,7 +78,8 @@ unfolding runTo
 runToTab-afterField [] = refl
 runToTab-afterField (b ∷ r) = go (eqb b tab) refl (runToTab-afterField r)
   where
-    go : (z : Bool) → eqb b tab ≡ z → runToTab (drop (runToTab r) r) ≡ 0 → runToTab (drop (runToTab (b ∷ r)) (b ∷ r)) ≡ 0
+    go : (z : Bool) → eqb b tab ≡ z → runToTab (drop (runToTab r) r) ≡ 0
+        → runToTab (drop (runToTab (b ∷ r)) (b ∷ r)) ≡ 0
     go true p ih = rw (p, p)
     go false p ih = rw p ih
 
@@ -143,6 +147,15 @@ fieldEnd-bounds s a e q h = (omega (arith, fieldEnd-from s a), omega (arith, fie
 pub fieldEnd-past : (s : List ℕ) (a : ℕ) → length s ≤ a → fieldEnd s a ≡ a
 unfolding fieldEnd endFrom
 fieldEnd-past s a h = rw (runTo-end tab s a h) (omega arith)
+
+-- where the part that is handed back starts
+pub partStart-past : (s : List ℕ) (a : ℕ) → length s < a → partStart s a ≡ 0
+unfolding partStart
+partStart-past s a h = rw (lt-ltb (length s) a h)
+
+pub partStart-is : (s : List ℕ) (a : ℕ) → a ≤ length s → partStart s a ≡ a
+unfolding partStart
+partStart-is s a h = rw (le-ltb (length s) a h)
 
 -- ---- the next field
 

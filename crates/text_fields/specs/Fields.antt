@@ -1,5 +1,5 @@
--- The fields of a line. Paper: 01, "Lines", "fields parted by a tab", and "The reader works over the one lent line and keeps where
--- the next field starts; each field is handed back as that part of the line".
+-- The fields of a line. Paper: 01, "Lines", "fields parted by a tab", and "The reader works over the one lent line
+-- and keeps where the next field starts; each field is handed back as that part of the line".
 --
 --   tab                the byte between two fields
 --   runTo stop s       how many bytes of s stand before its first byte `stop`, or in all; `runToTab s` for the tab
@@ -8,6 +8,8 @@
 --   fieldAt s at       that field, a part of s
 --   nextStart s at     where the field after it starts; length s + 1 where there is none
 --   Field s at f e     f is the part of s from `at` to e, between two tabs: what it means to be the field at `at`
+--   partStart s at     where in s the part that is handed back for `at` starts
+--   FieldOf line at f  the reference f is that part of the lent line: its bytes, and where they stand
 -- Assumes nothing.
 use Prim.Native.Nat.{ℕ, suc, _+_}
 use mathlib.Core.List.{List, [], _∷_, _++_}
@@ -16,6 +18,7 @@ use mathlib.Core.Logic.{_⊎_}
 use mathlib.Core.Path.{_≡_}
 use lib.ListN.{length, take, drop}
 use lib.Dec.{eqb, ltb}
+use denote.Ref.{RefT, now}
 
 abbrev pub tab : ℕ
 tab = 9
@@ -46,9 +49,20 @@ fieldAt s at = take (runToTab (drop at s)) (drop at s)
 unfoldable pub nextStart : List ℕ → ℕ → ℕ
 nextStart s at = cond (ltb (length s) at) at (fieldEnd s at + 1)
 
--- "the subslice between two tabs": before it the line's first `at` bytes, no tab in it, and after it a tab or the line's end
+-- "the subslice between two tabs": before it the line's first `at` bytes, no tab in it, and after it a tab or the
+-- line's end
 pub record Field (s : List ℕ) (at : ℕ) (f : List ℕ) (e : ℕ) : Type 0 where
   pub place : e ≡ at + length f
   pub whole : s ≡ take at s ++ (f ++ drop e s)
   pub no-tab : runToTab f ≡ length f
   pub after : (drop e s ≡ []) ⊎ (drop e s ≡ tab ∷ drop (e + 1) s)
+
+-- at its own place; past the line there is no field, and the part is the empty one at the line's start
+unfoldable pub partStart : List ℕ → ℕ → ℕ
+partStart s at = cond (ltb (length s) at) 0 at
+
+-- "handed back as that part of the line": no copy with the same bytes, but the line's own memory from that place on
+pub record FieldOf (line : RefT (List ℕ)) (at : ℕ) (f : RefT (List ℕ)) : Type 0 where
+  pub bytes : now f ≡ fieldAt (now line) at
+  pub memory : f .ptr .0 ≡ line .ptr .0
+  pub place : f .ptr .1 ≡ line .ptr .1 + partStart (now line) at

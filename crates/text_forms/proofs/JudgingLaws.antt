@@ -44,11 +44,14 @@ module _ (s : List ℕ) where
   -- ---- the ways out
 
   pub judged-long : (o : List ℕ) → longestLine < length s → Judged s o o (F.Bad longestLine)
-  judged-long o h = record { form = sym (lineForm-long h); words = sym (rw (entriesOf-long h, fitting-none) (over-none o)) }
+  judged-long o h =
+      record { form = sym (lineForm-long h); words = sym (rw (entriesOf-long h, fitting-none) (over-none o)) }
 
   module _ (o : List ℕ) (r : LineRecord) (h : length s ≤ longestLine) (q : recordOf s ≡ r) where
-    pub judged-list : {x : List ℕ} {f : LineForm} → f ≡ ofRecord s r → x ≡ over (fitting (entriesIn s r) o) o → Judged s o x f
-    judged-list e p = record { form = e ∙ sym (rw (lineForm-within h, q)); words = p ∙ sym (rw (entriesOf-within h, q)) }
+    pub judged-list : {x : List ℕ} {f : LineForm} → f ≡ ofRecord s r → x ≡ over (fitting (entriesIn s r) o) o
+        → Judged s o x f
+    judged-list e p =
+        record { form = e ∙ sym (rw (lineForm-within h, q)); words = p ∙ sym (rw (entriesOf-within h, q)) }
 
     -- a record without a list
     pub judged-plain : entriesIn s r ≡ [] → Judged s o o (ofRecord s r)
@@ -56,11 +59,13 @@ module _ (s : List ℕ) where
 
 -- ---- the list
 
-pub withList-all : (k : Kind) (t c e n : ℕ) (s : List ℕ) → listOf (drop e s) ≡ E.All n → F.Step k t c n ≡ withList k t c e (listOf (drop e s))
+pub withList-all : (k : Kind) (t c e n : ℕ) (s : List ℕ) → listOf (drop e s) ≡ E.All n
+    → F.Step k t c n ≡ withList k t c e (listOf (drop e s))
 unfolding withList
 withList-all k t c e n s q = rw q
 
-pub withList-bad : (k : Kind) (t c e j : ℕ) (s : List ℕ) → listOf (drop e s) ≡ E.Bad j → F.Bad (e + j) ≡ withList k t c e (listOf (drop e s))
+pub withList-bad : (k : Kind) (t c e j : ℕ) (s : List ℕ) → listOf (drop e s) ≡ E.Bad j
+    → F.Bad (e + j) ≡ withList k t c e (listOf (drop e s))
 unfolding withList
 withList-bad k t c e j s q = rw q
 
@@ -70,6 +75,7 @@ withList-bad k t c e j s q = rw q
 pub record-in-line : (s : List ℕ) (r : LineRecord) → length s ≤ longestLine → recordOf s ≡ r → InLine (ofRecord s r)
 record-in-line s r h q c e = omega (arith, verdict-column c (verdict s) (ap (ofRecord s) q ∙ e) .within)
 
-pub list-in-line : (s : List ℕ) (k : Kind) (t c e : ℕ) → length s ≤ longestLine → recordOf s ≡ R.Listing k t c e → InLine (withList k t c e (listOf (drop e s)))
+pub list-in-line : (s : List ℕ) (k : Kind) (t c e : ℕ) → length s ≤ longestLine → recordOf s ≡ R.Listing k t c e
+    → InLine (withList k t c e (listOf (drop e s)))
 unfolding ofRecord
 list-in-line s k t c e h q = record-in-line s (R.Listing k t c e) h q

@@ -1,5 +1,6 @@
--- The forms once more, cut where the proofs cut them: `Numbers k x` says that x is k numbers, each after a tab and in its printed
--- form, and `Parsed s` that s is a word and as many of them as it takes. Both ways between `Parsed` and `Formed`.
+-- The forms once more, cut where the proofs cut them: `Numbers k x` says that x is k numbers, each after a tab and in
+-- its printed form, and `Parsed s` that s is a word and as many of them as it takes. Both ways between `Parsed` and
+-- `Formed`.
 -- Assumes nothing.
 use Prim.Native.Nat.{ℕ, zero, suc, _≤_}
 use mathlib.Core.List.{List, [], _∷_, _++_}
@@ -32,7 +33,8 @@ unfolding fieldsText
 numbers-of [] no-more = refl
 numbers-of (n ∷ ns) (one-more h a) = (n, fieldsText ns, h, refl, numbers-of ns a)
 
-pub of-numbers : (k : ℕ) (x : List ℕ) → Numbers k x → (ns : List ℕ) × (length ns ≡ k) × AllSmall ns × (x ≡ fieldsText ns)
+pub of-numbers : (k : ℕ) (x : List ℕ) → Numbers k x → (ns : List ℕ) × (length ns ≡ k) × AllSmall ns
+    × (x ≡ fieldsText ns)
 unfolding fieldsText
 of-numbers zero x e = ([], refl, no-more, e)
 of-numbers (suc k) x (n, y, h, e, t) =
@@ -40,7 +42,15 @@ of-numbers (suc k) x (n, y, h, e, t) =
     (n ∷ ns, ap suc l, one-more h a, e ∙ ap (λ (z : List ℕ). tab ∷ (dec n ++ z)) q)
 
 pub parsed : (s : List ℕ) → Formed s → Parsed s
-parsed s (w, ns, f) = record { word = w; count = length ns; taken = f .taken; rest = fieldsText ns; text = f .text; numbers = numbers-of ns (f .small) }
+parsed s (w, ns, f) =
+    record {
+      word = w;
+      count = length ns;
+      taken = f .taken;
+      rest = fieldsText ns;
+      text = f .text;
+      numbers = numbers-of ns (f .small);
+    }
 
 pub formed : (s : List ℕ) → Parsed s → Formed s
 formed s p =

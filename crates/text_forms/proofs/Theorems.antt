@@ -1,5 +1,6 @@
--- What is promised of lines: the reader's answer is the form that the line is printed from, a line that is printed from no form goes
--- bad exactly at the column of 02, request 1, and nothing of a list is cut. All over the definitions of specs/, for every line.
+-- What is promised of lines: the reader's answer is the form that the line is printed from, a line that is printed
+-- from no form goes bad exactly at the column of 02, request 1, and nothing of a list is cut. All over the
+-- definitions of specs/, for every line.
 -- Assumes nothing.
 use Prim.Native.Nat.{ℕ, suc, _+_, _-_, _*_, _≤_, _<_}
 use mathlib.Core.List.{List, [], _∷_, _++_, append-assoc}
@@ -34,7 +35,8 @@ use Rattle.text_forms.specs.declared.LineForm.{LineForm}
 use Rattle.text_forms.specs.declared.LineForm.the-variants as F
 use Rattle.text_writers.specs.Texts.{fieldsText, no-more, one-more}
 use Rattle.text_forms.specs.Forms.{takes, AllSmall, Line, Formed, Start, BadAt, ColumnOf, too-long, goes-bad}
-use Rattle.text_forms.specs.Judging.{keywordIn, numbersBy, numbersIn, entryCount, withList, ofRecord, lineForm, entriesIn, entriesOf, IsForm, InLine, Judged}
+use Rattle.text_forms.specs.Judging.{keywordIn, numbersBy, numbersIn, entryCount, withList, ofRecord, lineForm}
+use Rattle.text_forms.specs.Judging.{entriesIn, entriesOf, IsForm, InLine, Judged}
 use Rattle.text_forms.proofs.Parsed.{formed, bad-formed}
 use Rattle.text_forms.proofs.Column.{Verdict, verdict-well, verdict-bad, verdict, verdict-column}
 use Rattle.text_forms.proofs.ReadBack.{line-read}
@@ -71,28 +73,34 @@ within-of s g = go (decLt longestLine (length s))
     go (no h) = omega arith
 
 -- A LINE THAT IS ANSWERED WITH A FORM IS MADE OF THAT FORM'S WORD AND NUMBERS
-pub read-is-printed : (s : List ℕ) → IsForm (lineForm s) → Line (keywordIn (lineForm s)) (numbersIn (lineForm s) (entriesOf s)) s
+pub read-is-printed : (s : List ℕ) → IsForm (lineForm s)
+    → Line (keywordIn (lineForm s)) (numbersIn (lineForm s) (entriesOf s)) s
 read-is-printed s g = go (verdict s) (lineForm-within s h)
   where
     h : length s ≤ longestLine
     h = within-of s g
 
-    go : {f : LineForm} → Verdict s f → lineForm s ≡ f → Line (keywordIn (lineForm s)) (numbersIn (lineForm s) (entriesOf s)) s
+    go : {f : LineForm} → Verdict s f → lineForm s ≡ f
+        → Line (keywordIn (lineForm s)) (numbersIn (lineForm s) (entriesOf s)) s
     go (verdict-bad c b) e = absurd (g c e)
     go (verdict-well f q p) e =
         let (w, ns, l) = formed s p in
         let r = printed-is-read w ns s l h in
-        subst (λ (v : Keyword). Line v (numbersIn (lineForm s) (entriesOf s)) s) (sym (r .0)) (subst (λ (m : List ℕ). Line w m s) (sym (r .1)) l)
+        subst (λ (v : Keyword). Line v (numbersIn (lineForm s) (entriesOf s)) s) (sym (r .0))
+        (subst (λ (m : List ℕ). Line w m s) (sym (r .1)) l)
 
 -- ---- the column
 
--- A BAD LINE'S COLUMN is that of the first byte with which it stops being the start of a well-formed line; 2,048 if it is too long
+-- A BAD LINE'S COLUMN is that of the first byte with which it stops being the start of a well-formed line; 2,048 if
+-- it is too long
 pub bad-column : (s : List ℕ) (c : ℕ) → lineForm s ≡ F.Bad c → ColumnOf s c
 bad-column s c e = go (decLt longestLine (length s))
   where
     go : Dec (longestLine < length s) → ColumnOf s c
-    go (yes h) = let q : F.Bad longestLine ≡ F.Bad c = sym (lineForm-long s h) ∙ e in let z : longestLine ≡ c = cc in subst (ColumnOf s) z (too-long h)
-    go (no h) = let l : length s ≤ longestLine = omega arith in goes-bad c l (bad-formed s c (verdict-column c (verdict s) (sym (lineForm-within s l) ∙ e)))
+    go (yes h) = let q : F.Bad longestLine ≡ F.Bad c = sym (lineForm-long s h) ∙ e in let z : longestLine ≡ c = cc in
+        subst (ColumnOf s) z (too-long h)
+    go (no h) = let l : length s ≤ longestLine = omega arith in
+        goes-bad c l (bad-formed s c (verdict-column c (verdict s) (sym (lineForm-within s l) ∙ e)))
 
 -- every column is at most 2,048
 pub column-in-line : (s : List ℕ) → InLine (lineForm s)
@@ -108,7 +116,8 @@ starts-before L s c d b h =
     let (x, l) = b .start in
     let q : c ≡ d + (c - d) = omega arith in (
       take (c - d) (drop d s) ++ x,
-      subst L (ap (λ (i : ℕ). take i s ++ x) q ∙ ap (λ (y : List ℕ). y ++ x) (take-add d (c - d) s) ∙ append-assoc (take d s) (take (c - d) (drop d s)) x) l,
+      subst L (ap (λ (i : ℕ). take i s ++ x) q ∙ ap (λ (y : List ℕ). y ++ x) (take-add d (c - d) s)
+          ∙ append-assoc (take d s) (take (c - d) (drop d s)) x) l,
     )
 
 early : (L : List ℕ → Type 0) (s : List ℕ) (c d : ℕ) → BadAt L s c → BadAt L s d → c < d → ⊥
@@ -136,7 +145,8 @@ column-found s (goes-bad c h b) = go (verdict s) (lineForm-within s h)
 pub form-or-column : (s : List ℕ) → (Formed s × (length s ≤ longestLine)) ⊎ ((c : ℕ) × ColumnOf s c)
 form-or-column s = go (decLt longestLine (length s))
   where
-    judged : {f : LineForm} → length s ≤ longestLine → Verdict s f → (Formed s × (length s ≤ longestLine)) ⊎ ((c : ℕ) × ColumnOf s c)
+    judged : {f : LineForm} → length s ≤ longestLine → Verdict s f → (Formed s × (length s ≤ longestLine))
+        ⊎ ((c : ℕ) × ColumnOf s c)
     judged h (verdict-well f g p) = inl (formed s p, h)
     judged h (verdict-bad c b) = inr (c, goes-bad c h (bad-formed s c b))
 
@@ -155,12 +165,14 @@ one-column s {c} {d} p q = let z : F.Bad c ≡ F.Bad d = sym (column-found s p) 
 
 -- ---- the list
 
-list-count : (s : List ℕ) (k : Kind) (t c e : ℕ) (r : Listed) → listOf (drop e s) ≡ r → IsForm (withList k t c e r) → entryCount (withList k t c e r) ≡ length (listEntries (drop e s))
+list-count : (s : List ℕ) (k : Kind) (t c e : ℕ) (r : Listed) → listOf (drop e s) ≡ r → IsForm (withList k t c e r)
+    → entryCount (withList k t c e r) ≡ length (listEntries (drop e s))
 unfolding withList entryCount
 list-count s k t c e (E.All n) q g = listOf-count (drop e s) n q
 list-count s k t c e (E.Bad j) q g = absurd (g (e + j) refl)
 
-record-count : (s : List ℕ) (r : LineRecord) → IsForm (ofRecord s r) → entryCount (ofRecord s r) ≡ length (entriesIn s r)
+record-count : (s : List ℕ) (r : LineRecord) → IsForm (ofRecord s r)
+    → entryCount (ofRecord s r) ≡ length (entriesIn s r)
 unfolding ofRecord entryCount entriesIn
 record-count s (R.Open a b) g = refl
 record-count s (R.Plain k t p) g = refl
@@ -185,11 +197,13 @@ entries-half s = go (decLt longestLine (length s))
   where
     go : Dec (longestLine < length s) → 2 * length (entriesOf s) ≤ longestLine
     go (yes h) = rw (entriesOf-long s h) (omega arith)
-    go (no h) = let l : length s ≤ longestLine = omega arith in rw (entriesOf-within s l) (omega (arith, record-entries s (recordOf s)))
+    go (no h) = let l : length s ≤ longestLine = omega arith in
+        rw (entriesOf-within s l) (omega (arith, record-entries s (recordOf s)))
 
 -- NOTHING IS CUT: 1,024 lent words hold the list of any line
 pub judged-whole : {s o x : List ℕ} {r : LineForm} → Judged s o x r → mostEntries ≤ length o → x ≡ over (entriesOf s) o
-judged-whole {s} {o} j h = j .words ∙ ap (λ (t : List ℕ). over t o) (fitting-room (entriesOf s) o (omega (arith, entries-half s)))
+judged-whole {s} {o} j h =
+    j .words ∙ ap (λ (t : List ℕ). over t o) (fitting-room (entriesOf s) o (omega (arith, entries-half s)))
 
 fields-least : (ns : List ℕ) → AllSmall ns → 2 * length ns ≤ length (fieldsText ns)
 unfolding fieldsText
@@ -201,11 +215,13 @@ async-length : length (textOf (W.Step Async)) ≡ 5
 unfolding textOf
 async-length = refl
 
-async-line : (s : List ℕ) (t c n : ℕ) (f : LineForm) (vs : List ℕ) → f ≡ F.Step Async t c n → Line (keywordIn f) (numbersIn f vs) s → 9 + 2 * length vs ≤ length s
+async-line : (s : List ℕ) (t c n : ℕ) (f : LineForm) (vs : List ℕ) → f ≡ F.Step Async t c n
+    → Line (keywordIn f) (numbersIn f vs) s → 9 + 2 * length vs ≤ length s
 unfolding keywordIn numbersIn numbersBy shapeOf
 async-line s t c n f vs e l =
     let m = subst (λ (g : LineForm). Line (keywordIn g) (numbersIn g vs) s) e l in
-    let k : length s ≡ length (textOf (W.Step Async)) + length (fieldsText (t ∷ c ∷ vs)) = ap length (m .text) ∙ length-append (textOf (W.Step Async)) (fieldsText (t ∷ c ∷ vs)) in
+    let k : length s ≡ length (textOf (W.Step Async)) + length (fieldsText (t ∷ c ∷ vs)) = ap length (m .text)
+    ∙ length-append (textOf (W.Step Async)) (fieldsText (t ∷ c ∷ vs)) in
     omega (arith, async-length, fields-least (t ∷ c ∷ vs) (m .small))
 
 step-good : {k : Kind} {t c n : ℕ} {f : LineForm} → f ≡ F.Step k t c n → IsForm f
@@ -219,7 +235,12 @@ step-counts s k t c n e = sym (ap entryCount e) ∙ form-counts s (step-good e)
 pub entries-most : (s : List ℕ) (t c n : ℕ) → lineForm s ≡ F.Step Async t c n → n ≤ 1019
 entries-most s t c n e =
     let g = step-good e in
-    omega (arith, step-counts s Async t c n e, within-of s g, async-line s t c n (lineForm s) (entriesOf s) e (read-is-printed s g))
+    omega (
+      arith,
+      step-counts s Async t c n e,
+      within-of s g,
+      async-line s t c n (lineForm s) (entriesOf s) e (read-is-printed s g),
+    )
 
 -- ---- 01, "How much each contract must say": any two outcomes that the contract allows coincide
 

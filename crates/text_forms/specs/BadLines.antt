@@ -1,5 +1,5 @@
--- Bad lines and their columns. Paper: 02, request 1. `textOf` and `fieldsText` print the good part of a line; what follows spoils it.
--- proofs/Columns.antt computes every row.
+-- Bad lines and their columns. Paper: 02, request 1. `textOf` and `fieldsText` print the good part of a line; what
+-- follows spoils it. proofs/Columns.antt computes every row.
 --
 --   Bad                a bad line and its column
 --   badLines           the table

@@ -1,12 +1,13 @@
--- The forms of a line, in the direction of printing: a line is made of a word and numbers, and nothing is said of how it is read.
--- Paper: 01, "Lines", "`open T P`, `new t p`, `set t p`, `get t p`, `async t c p..`, `end t`, with a tab for each blank"; the
--- column is that of 02, request 1.
+-- The forms of a line, in the direction of printing: a line is made of a word and numbers, and nothing is said of how
+-- it is read. Paper: 01, "Lines", "`open T P`, `new t p`, `set t p`, `get t p`, `async t c p..`, `end t`, with a tab
+-- for each blank"; the column is that of 02, request 1.
 --
 --   takes w n          whether the word w takes n numbers
 --   AllSmall ns        each number of ns is at most 65535
 --   Line w ns s        s is the line of the word w and the numbers ns
 --   Formed s           s is a well-formed line, its length limit aside
---   Start L s          s is the start of some line of L, for any language L of lines; NoStart L s: it is the start of none
+--   Start L s          s is the start of some line of L, for any language L of lines; NoStart L s: it is the start of
+--                      none
 --   BadAt L s c        c is the column where s stops being the start of a line of L
 --   ColumnOf s c       c is the column of the line s, which is bad or too long
 -- Assumes nothing.
@@ -58,8 +59,8 @@ Start L s = (x : List ℕ) × L (s ++ x)
 abbrev pub NoStart : (List ℕ → Type 0) → List ℕ → Type 0
 NoStart L s = (x : List ℕ) → L (s ++ x) → ⊥
 
--- "the column, counted from 0, of the first byte with which the line so far stops being the start of any well-formed line ..
--- or the line's length if only the end came too early"
+-- "the column, counted from 0, of the first byte with which the line so far stops being the start of any well-formed
+-- line .. or the line's length if only the end came too early"
 pub record BadAt (L : List ℕ → Type 0) (s : List ℕ) (c : ℕ) : Type 0 where
   pub within : c ≤ length s
   pub start : Start L (take c s)

@@ -10,19 +10,21 @@ use text_lists::Listed;
 use text_records::LineRecord;
 use words::Limit;
 
-// The form of a line. `Step` holds the kind, its numbers, and how many entries its list has: they stand in the lent words. A step of one number has 0 for the other, and a
-// step without a list 0 entries. `Bad` holds the column, which fits a word: it is at most `Limit::LINE`.
+// The form of a line. `Step` holds the kind, its numbers, and how many entries its list has: they stand in the lent
+// words. A step of one number has 0 for the other, and a step without a list 0 entries. `Bad` holds the column, which
+// fits a word: it is at most `Limit::LINE`.
 pub enum LineForm {
     Open(u16, u16),
     Step(Kind, u16, u16, usize),
     Bad(u16),
 }
 
-// A step whose list starts at `at`.
+// A step whose numbers end at `at`, with the list behind them.
 fn with_list(line: &[u8], kind: Kind, t: u16, c: u16, at: usize, list: &mut [u16]) -> LineForm
     requires { ⌜ InLine (withList kind t c at (listOf (drop at (now line)))) ⌝ }
     ensures { λ r. ⌜ r ≡ withList kind t c at (listOf (drop at (now (line .entry)))) ⌝ }
-    ensures { λ r. ⌜ now (list .exit) ≡ over (fitting (listEntries (drop at (now (line .entry)))) (now (list .entry))) (now (list .entry)) ⌝ }
+    ensures { λ r. ⌜ now (list .exit) ≡ over (fitting (listEntries (drop at (now (line .entry)))) (now (list .entry)))
+        (now (list .entry)) ⌝ }
 {
     match text_lists::list_after(line, at, list) {
         Listed::All(n) => LineForm::Step(kind, t, c, n),
@@ -30,7 +32,8 @@ fn with_list(line: &[u8], kind: Kind, t: u16, c: u16, at: usize, list: &mut [u16
     }
 }
 
-// The form of the line; the entries of its list are written into the lent words, of which `Limit::ENTRIES` are enough for any line.
+// The form of the line; the entries of its list are written into the lent words, of which `Limit::ENTRIES` are enough
+// for any line.
 pub fn judge(line: &[u8], list: &mut [u16]) -> LineForm
     ensures { λ r. ⌜ Judged (now (line .entry)) (now (list .entry)) (now (list .exit)) r ⌝ }
 {

@@ -1,5 +1,6 @@
--- Laws of specs/Keywords.antt that the code cites: for `same` and `common` one for each way out of a step of a loop over both lists,
--- and for `longest` one for a word more. What the definitions say of a whole field is in LookupLaws.antt.
+-- Laws of specs/Keywords.antt that the code cites: for `same` and `common` one for each way out of a step of a loop
+-- over both lists, and for `longest` one for a word more. What the definitions say of a whole field is in
+-- LookupLaws.antt.
 -- Assumes nothing.
 use Prim.Native.Nat.{ℕ, suc, _+_, _≤_, _<_}
 use mathlib.Core.List.{List, [], _∷_}
@@ -33,7 +34,8 @@ module _ (a b : List ℕ) (i : ℕ) where
   unfolding same
   same-stop h k n = rw (drop-cons a i 0, drop-cons b i 0, ne-eqb _ _ n)
 
-  pub same-go : i < length a → i < length b → getD a i 0 ≡ getD b i 0 → same (drop i a) (drop i b) ≡ same (drop (i + 1) a) (drop (i + 1) b)
+  pub same-go : i < length a → i < length b → getD a i 0 ≡ getD b i 0
+      → same (drop i a) (drop i b) ≡ same (drop (i + 1) a) (drop (i + 1) b)
   unfolding same
   same-go h k e = rw (add-one i, drop-cons a i 0, drop-cons b i 0, eq-eqb _ _ e)
 
@@ -55,14 +57,16 @@ module _ (a b : List ℕ) (i : ℕ) where
   unfolding common
   common-stop h k n = rw (drop-cons a i 0, drop-cons b i 0, ne-eqb _ _ n)
 
-  pub common-go : i < length a → i < length b → getD a i 0 ≡ getD b i 0 → common (drop i a) (drop i b) ≡ suc (common (drop (i + 1) a) (drop (i + 1) b))
+  pub common-go : i < length a → i < length b → getD a i 0 ≡ getD b i 0
+      → common (drop i a) (drop i b) ≡ suc (common (drop (i + 1) a) (drop (i + 1) b))
   unfolding common
   common-go h k e = rw (drop-cons a i 0, drop-cons b i 0, eq-eqb _ _ e, add-one i)
 
 -- ---- the table
 
 -- how far a field goes along with one word more
-pub longest-more : (s : List ℕ) (w : Keyword) (ws : List Keyword) (k r m : ℕ) → m ≡ larger k r → k ≡ common s (textOf w) → r ≡ longest s ws → m ≡ longest s (w ∷ ws)
+pub longest-more : (s : List ℕ) (w : Keyword) (ws : List Keyword) (k r m : ℕ) → m ≡ larger k r → k ≡ common s (textOf w)
+    → r ≡ longest s ws → m ≡ longest s (w ∷ ws)
 unfolding longest
 longest-more s w ws k r m e f g = rw (e, f, g)
 

@@ -1,5 +1,5 @@
--- What is promised of the words that start a line: a field is told as a word exactly if it is that word's bytes, and otherwise the
--- place of the first byte with which it stops being the start of any (02, request 1).
+-- What is promised of the words that start a line: a field is told as a word exactly if it is that word's bytes, and
+-- otherwise the place of the first byte with which it stops being the start of any (02, request 1).
 -- Assumes nothing.
 use Prim.Native.Nat.{ℕ, zero, suc, _≤_}
 use mathlib.Core.List.{List, [], _∷_}
@@ -15,8 +15,10 @@ use Rattle.step_kinds.specs.declared.Kind.{Kind}
 use Rattle.step_kinds.specs.declared.Kind.the-variants.{New, Set, Get, Async, End}
 use Rattle.text_keywords.specs.declared.Keyword.{Keyword}
 use Rattle.text_keywords.specs.declared.Keyword.the-variants as W
-use Rattle.text_keywords.specs.Keywords.{On, here, later, StopsAt, same, common, textOf, keywords, longest, lookup, keywordOf}
-use Rattle.text_keywords.proofs.LookupLaws.{Proper, same-refl, common-most, common-take, lookup-is, lookup-other, longest-most, longest-is}
+use Rattle.text_keywords.specs.Keywords.{On, here, later, StopsAt, same, common, textOf, keywords, longest}
+use Rattle.text_keywords.specs.Keywords.{lookup, keywordOf}
+use Rattle.text_keywords.proofs.LookupLaws.{Proper, same-refl, common-most, common-take, lookup-is}
+use Rattle.text_keywords.proofs.LookupLaws.{lookup-other, longest-most, longest-is}
 
 -- ---- the table
 
@@ -46,7 +48,8 @@ unfolding keywords textOf
 long = cons refl (cons refl (cons refl (cons refl (cons refl (cons refl nil)))))
 
 pub proper : Proper keywords
-proper w i j e = let h = ltb-true 0 (length (textOf w)) (each-at i long) in let z : length (textOf w) ≡ 0 = ap (λ (v : Keyword). length (textOf v)) e ∙ other-empty j in omega arith
+proper w i j e = let h = ltb-true 0 (length (textOf w)) (each-at i long) in let z : length (textOf w) ≡ 0 =
+    ap (λ (v : Keyword). length (textOf v)) e ∙ other-empty j in omega arith
 
 -- ---- the word
 
@@ -86,9 +89,11 @@ keywordOf-other s k e =
     let r = lookup-other s (longest s keywords) keywords k proper e in
     record {
       within = subst (λ (i : ℕ). i ≤ length s) (r .0) (most (longest-is s keywords));
-      start = subst (λ (i : ℕ). (w : Keyword) × On w keywords × (take i s ≡ take i (textOf w))) (r .0) (begin (longest-is s keywords));
+      start = subst (λ (i : ℕ). (w : Keyword) × On w keywords × (take i s ≡ take i (textOf w))) (r .0)
+          (begin (longest-is s keywords));
       stop = λ h w i q. omega (arith, r .0, longest-most s i, common-least (suc k) s (textOf w) h q);
-      none = λ w i q. true-is-not-false (sym (same-refl (textOf w)) ∙ ap (λ (y : List ℕ). same y (textOf w)) (sym q) ∙ r .1 w i);
+      none = λ w i q. true-is-not-false (sym (same-refl (textOf w)) ∙ ap (λ (y : List ℕ). same y (textOf w)) (sym q)
+          ∙ r .1 w i);
     }
   where
     Found : Type 0

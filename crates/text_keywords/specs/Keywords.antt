@@ -1,5 +1,6 @@
--- The words that start a line. Paper: 01, "Lines", "`open T P`, `new t p`, `set t p`, `get t p`, `async t c p..`, `end t`"; the
--- place of a bad byte follows 02, request 1, "the first byte with which the line so far stops being the start of any".
+-- The words that start a line. Paper: 01, "Lines", "`open T P`, `new t p`, `set t p`, `get t p`, `async t c p..`,
+-- `end t`"; the place of a bad byte follows 02, request 1, "the first byte with which the line so far stops being the
+-- start of any".
 --
 --   textOf w           the bytes of the word w
 --   keywords           the six words: the table that a field is looked up in
@@ -65,8 +66,8 @@ pub data On (w : Keyword) : List Keyword → Type 0 where
   here : {ws : List Keyword} → On w (w ∷ ws)
   later : {v : Keyword} {ws : List Keyword} → On w ws → On w (v ∷ ws)
 
--- "the first byte with which the line so far stops being the start of any": k bytes of the field begin some word; with one more
--- they begin none, or only the end came too early
+-- "the first byte with which the line so far stops being the start of any": k bytes of the field begin some word;
+-- with one more they begin none, or only the end came too early
 pub record StopsAt (s : List ℕ) (k : ℕ) : Type 0 where
   pub within : k ≤ length s
   pub start : (w : Keyword) × On w keywords × (take k s ≡ take k (textOf w))

@@ -1,5 +1,5 @@
--- What is promised of the list of async: nothing overflows and nothing is cut where one word is lent for two bytes, as 1,024 words
--- are for a line of 2,048; the answer counts the entries; and any two outcomes coincide.
+-- What is promised of the list of async: nothing overflows and nothing is cut where one word is lent for two bytes,
+-- as 1,024 words are for a line of 2,048; the answer counts the entries; and any two outcomes coincide.
 -- Assumes nothing.
 use Prim.Native.Nat.{ℕ, _*_, _≤_}
 use mathlib.Core.List.{List}
@@ -19,7 +19,8 @@ list-whole {s} {o} l h =
     let m = listEntries-most s in
     l .words ∙ ap (λ (t : List ℕ). over t o) (fitting-room (listEntries s) o (omega arith))
 
--- the answer counts them, and they are at most one for two bytes: 1,019 in a line of 2,048, whose word, actor and child take 9
+-- the answer counts them, and they are at most one for two bytes: 1,019 in a line of 2,048, whose word, actor and
+-- child take 9
 pub list-counted : {s o x : List ℕ} {n : ℕ} → Listing s o x (All n) → (n ≡ length (listEntries s)) × (2 * n ≤ length s)
 list-counted {s} {o} {x} {n} l =
     let c = listOf-count s n (sym (l .answer)) in

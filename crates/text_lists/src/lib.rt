@@ -1,5 +1,5 @@
-// The promise fields of async, read from the rest of the line after the child into lent words. Lent one word for two bytes, all of
-// them find room; of a longer list those without room are counted and not kept.
+// The promise fields of async, read from the rest of the line after the child into lent words. Lent one word for two
+// bytes, all of them find room; of a longer list those without room are counted and not kept.
 ghost use mathlib.Core.Path.{_≡_};
 ghost use lib.ListN.{set, drop};
 ghost use Rattle.text_lists.specs.Lists.{Listing};
@@ -20,18 +20,18 @@ fn keep(out: &mut [u16], n: usize, v: u16)
     }
 }
 
-// The list that is the whole of `rest`.
+// The list that is the whole of `rest`: nothing, or a tab and a field for each entry. `a` is where the next one starts.
 pub fn list(rest: &[u8], out: &mut [u16]) -> Listed
     ensures { λ r. ⌜ Listing (now (rest .entry)) (now (out .entry)) (now (out .exit)) r ⌝ }
 {
-    let mut e = 0;
+    let mut a = 1;
     let mut n = 0;
-    while e < rest.len() {
-        match text_records::number_at(rest, e) {
-            Numbered::Is(v, f) => {
+    while a <= rest.len() {
+        match text_records::number_at(rest, a) {
+            Numbered::Is(v, next) => {
                 keep(out, n, v);
                 n += 1;
-                e = f;
+                a = next;
             }
             Numbered::Bad(c) => {
                 return Listed::Bad(c);

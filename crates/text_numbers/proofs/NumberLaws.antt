@@ -1,5 +1,5 @@
--- Laws of `numberIn` and `digitsFrom`, the reading half of specs/Numbers.antt: one for each way out of a step of a loop over the
--- field, and that a bad byte's place lies within the field.
+-- Laws of `numberIn` and `digitsFrom`, the reading half of specs/Numbers.antt: one for each way out of a step of a
+-- loop over the field, and that a bad byte's place lies within the field.
 -- Assumes nothing.
 use Prim.Native.Nat.{ℕ, suc, _+_, _*_, _≤_, _<_}
 use mathlib.Core.List.{List, [], _∷_}
@@ -50,16 +50,18 @@ module _ (s : List ℕ) (v k i : ℕ) where
     unfolding digitsFrom
     digitsFrom-over n o = rw (drop-cons s i 0, ← e, lt-ltb _ _ n, lt-leb _ _ o)
 
-    pub digitsFrom-go : d < 10 → v * 10 + d ≤ largest → digitsFrom v k (drop i s) ≡ digitsFrom (v * 10 + d) (k + 1) (drop (i + 1) s)
+    pub digitsFrom-go : d < 10 → v * 10 + d ≤ largest
+        → digitsFrom v k (drop i s) ≡ digitsFrom (v * 10 + d) (k + 1) (drop (i + 1) s)
     unfolding digitsFrom
     digitsFrom-go n o = rw (add-one i, drop-cons s i 0, ← e, lt-ltb _ _ n, le-leb _ _ o)
 
 -- the place of a bad byte is within the field, or at its end
-never : {k n : ℕ} {A : Type 0} → Is n ≡ Bad k → A
+pub never : {k n : ℕ} {A : Type 0} → Is n ≡ Bad k → A
 never e = let z : _≡_ {A = ℕ} 0 1 = cc in absurd (omega arith)
 
 within-step : (b v k j : ℕ) (s : List ℕ) → (digitsFrom (v * 10 + digitOf b) (k + 1) s ≡ Bad j → j ≤ k + 1 + length s)
-    → (x : Bool) → ltb (digitOf b) 10 ≡ x → (y : Bool) → leb (v * 10 + digitOf b) largest ≡ y → digitsFrom v k (b ∷ s) ≡ Bad j → j ≤ k + suc (length s)
+    → (x : Bool) → ltb (digitOf b) 10 ≡ x → (y : Bool) → leb (v * 10 + digitOf b) largest ≡ y
+    → digitsFrom v k (b ∷ s) ≡ Bad j → j ≤ k + suc (length s)
 unfolding digitsFrom
 within-step b v k j s ih false d y o e = let r = rw d at e in let q : k ≡ j = cc in omega arith
 within-step b v k j s ih true d false o e = let r = rw (d, o) at e in let q : k ≡ j = cc in omega arith
@@ -69,7 +71,8 @@ digitsFrom-within : (s : List ℕ) (v k j : ℕ) → digitsFrom v k s ≡ Bad j 
 unfolding digitsFrom
 digitsFrom-within [] v k j e = never e
 digitsFrom-within (b ∷ s) v k j e =
-    within-step b v k j s (digitsFrom-within s (v * 10 + digitOf b) (k + 1) j) (ltb (digitOf b) 10) refl (leb (v * 10 + digitOf b) largest) refl e
+    within-step b v k j s (digitsFrom-within s (v * 10 + digitOf b) (k + 1) j) (ltb (digitOf b) 10) refl
+    (leb (v * 10 + digitOf b) largest) refl e
 
 bad-step : (b j : ℕ) (s : List ℕ) (x : Bool) → eqb b 48 ≡ x → numberIn (b ∷ s) ≡ Bad j → j ≤ suc (length s)
 unfolding numberIn afterZero

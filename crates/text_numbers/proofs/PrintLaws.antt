@@ -1,5 +1,6 @@
--- Laws of `dec`, the printing half of specs/Numbers.antt: that a printed number is read back, that nothing else is read as it, the
--- form by its last digit, and how many digits there are. Printed digits are read from the left with the value so far as the state.
+-- Laws of `dec`, the printing half of specs/Numbers.antt: that a printed number is read back, that nothing else is
+-- read as it, the form by its last digit, and how many digits there are. Printed digits are read from the left with
+-- the value so far as the state.
 -- Assumes nothing.
 use Prim.Native.Nat.{ℕ, zero, suc, _+_, _*_, _/_, _%_, _≤_, _<_}
 use mathlib.Core.List.{List, [], _∷_, _++_, append-assoc, append-nil}
@@ -12,8 +13,9 @@ use lib.Dec.{ltb, leb, eqb}
 use lib.ListN.{length, length-append}
 use Rattle.text_buffers.specs.Buffers.{Wrote, Added}
 use Rattle.text_buffers.proofs.BufferLaws.{wrote-none, wrote-added}
-use Rattle.text_numbers.specs.declared.Num.the-variants.{Is, Bad}
+use Rattle.text_numbers.specs.declared.Num.the-variants.{Is}
 use Rattle.text_numbers.specs.Numbers.{largest, digitOf, digitsFrom, afterZero, numberIn, decWithin, dec}
+use Rattle.text_numbers.proofs.NumberLaws.{never}
 
 lim : ℕ → ℕ
 lim zero = 1
@@ -23,7 +25,8 @@ digit-of : (d : ℕ) → d < 10 → digitOf (48 + d) ≡ d
 unfolding digitOf
 digit-of d h = rw (le-ltb (48 + d) 48 (omega arith), le-ltb 57 (48 + d) (omega arith)) (omega arith)
 
-more-digit : (v k d : ℕ) (t : List ℕ) → d < 10 → v * 10 + d ≤ largest → digitsFrom v k ((48 + d) ∷ t) ≡ digitsFrom (v * 10 + d) (k + 1) t
+more-digit : (v k d : ℕ) (t : List ℕ) → d < 10 → v * 10 + d ≤ largest
+    → digitsFrom v k ((48 + d) ∷ t) ≡ digitsFrom (v * 10 + d) (k + 1) t
 unfolding digitsFrom
 more-digit v k d t h o = rw (digit-of d h, lt-ltb d 10 h, le-leb (v * 10 + d) largest o)
 
@@ -41,17 +44,22 @@ head-nonzero d t h = rw (ne-eqb (48 + d) 48 (λ e. omega arith))
 
 -- n's printed form, before any rest t, is read up to t with the value n
 abbrev Reads : ℕ → ℕ → Type 0
-Reads f n = (t : List ℕ) → 0 < n → n ≤ largest → n < lim f → (k : ℕ) × (numberIn (decWithin f n ++ t) ≡ digitsFrom n k t)
+Reads f n = (t : List ℕ) → 0 < n → n ≤ largest → n < lim f
+    → (k : ℕ) × (numberIn (decWithin f n ++ t) ≡ digitsFrom n k t)
 
 reads-step : (f n : ℕ) → Reads f (n / 10) → Dec (n < 10) → Reads (suc f) n
 unfolding lim
-reads-step f n ih (yes h) t p m l =
-    (0 + 1, rw (dec-one f n h) (head-nonzero n t p ∙ more-digit 0 0 n t h (omega arith) ∙ ap (λ (v : ℕ). digitsFrom v (0 + 1) t) (omega arith)))
+reads-step f n ih (yes h) t p m l = (
+  0 + 1,
+  rw (dec-one f n h) (head-nonzero n t p ∙ more-digit 0 0 n t h (omega arith)
+      ∙ ap (λ (v : ℕ). digitsFrom v (0 + 1) t) (omega arith)),
+)
 reads-step f n ih (no h) t p m l =
     let r = ih ((48 + n % 10) ∷ t) (omega arith) (omega arith) (omega arith) in (
       r .0 + 1,
       rw (dec-more f n (omega arith), append-assoc)
-          (r .1 ∙ more-digit (n / 10) (r .0) (n % 10) t (omega arith) (omega arith) ∙ ap (λ (v : ℕ). digitsFrom v (r .0 + 1) t) (omega arith)),
+          (r .1 ∙ more-digit (n / 10) (r .0) (n % 10) t (omega arith) (omega arith)
+          ∙ ap (λ (v : ℕ). digitsFrom v (r .0 + 1) t) (omega arith)),
     )
 
 reads : (f n : ℕ) → Reads f n
@@ -76,14 +84,13 @@ byte-of b h = go (ltb b 48) refl (ltb 57 b) refl
     go false p true q = absurd (omega (arith, rw (p, q) at h))
     go false p false q = rw (p, q) (omega (arith, ltb-false b 48 p))
 
-never : {k n : ℕ} {A : Type 0} → Bad k ≡ Is n → A
-never e = let z : _≡_ {A = ℕ} 0 1 = cc in absurd (omega arith)
-
-fuel-step : (f n : ℕ) → (n / 10 < lim (suc f) → decWithin (suc f) (n / 10) ≡ decWithin (suc (suc f)) (n / 10)) → Dec (n < 10)
+fuel-step : (f n : ℕ) → (n / 10 < lim (suc f) → decWithin (suc f) (n / 10) ≡ decWithin (suc (suc f)) (n / 10))
+    → Dec (n < 10)
     → n < lim (suc (suc f)) → decWithin (suc (suc f)) n ≡ decWithin (suc (suc (suc f))) n
 unfolding lim
 fuel-step f n ih (yes h) l = rw (dec-one (suc f) n h, dec-one (suc (suc f)) n h)
-fuel-step f n ih (no h) l = rw (dec-more (suc f) n (omega arith), dec-more (suc (suc f)) n (omega arith), ih (omega arith))
+fuel-step f n ih (no h) l =
+    rw (dec-more (suc f) n (omega arith), dec-more (suc (suc f)) n (omega arith), ih (omega arith))
 
 fuel : (f n : ℕ) → n < lim (suc f) → decWithin (suc f) n ≡ decWithin (suc (suc f)) n
 unfolding lim
@@ -98,26 +105,32 @@ dec-snoc v d p m h =
     rw (dec-more 9 (v * 10 + d) (omega arith), q, r, fuel 8 v (omega arith))
 
 prints-step : (b v k n : ℕ) (s : List ℕ)
-    → (digitsFrom (v * 10 + digitOf b) (k + 1) s ≡ Is n → v * 10 + digitOf b ≤ largest → (n ≤ largest) × (dec (v * 10 + digitOf b) ++ s ≡ dec n))
+    → (digitsFrom (v * 10 + digitOf b) (k + 1) s ≡ Is n → v * 10 + digitOf b ≤ largest
+    → (n ≤ largest) × (dec (v * 10 + digitOf b) ++ s ≡ dec n))
     → (x : Bool) → ltb (digitOf b) 10 ≡ x → (y : Bool) → leb (v * 10 + digitOf b) largest ≡ y
     → 0 < v → v ≤ largest → digitsFrom v k (b ∷ s) ≡ Is n → (n ≤ largest) × (dec v ++ (b ∷ s) ≡ dec n)
 unfolding digitsFrom
-prints-step b v k n s ih false d y o p m e = never (rw d at e)
-prints-step b v k n s ih true d false o p m e = never (rw (d, o) at e)
+prints-step b v k n s ih false d y o p m e = never (sym (rw d at e))
+prints-step b v k n s ih true d false o p m e = never (sym (rw (d, o) at e))
 prints-step b v k n s ih true d true o p m e =
     let h = ltb-true (digitOf b) 10 d in
-    let r = ih (rw (d, o) at e) (leb-true _ _ o) in
-    (r .0, rw (← byte-of b h) (sym (append-assoc (dec v) ((48 + digitOf b) ∷ []) s) ∙ ap (λ (l : List ℕ). l ++ s) (sym (dec-snoc v (digitOf b) p m h)) ∙ r .1))
+    let r = ih (rw (d, o) at e) (leb-true _ _ o) in (
+      r .0,
+      rw (← byte-of b h) (sym (append-assoc (dec v) ((48 + digitOf b) ∷ []) s)
+          ∙ ap (λ (l : List ℕ). l ++ s) (sym (dec-snoc v (digitOf b) p m h)) ∙ r .1),
+    )
 
 prints : (s : List ℕ) (v k n : ℕ) → 0 < v → v ≤ largest → digitsFrom v k s ≡ Is n → (n ≤ largest) × (dec v ++ s ≡ dec n)
 unfolding digitsFrom
 prints [] v k n p m e = let q : v ≡ n = cc in (omega arith, append-nil (dec v) ∙ ap dec q)
 prints (b ∷ s) v k n p m e =
-    prints-step b v k n s (λ e′ o. prints s (v * 10 + digitOf b) (k + 1) n (omega arith) o e′) (ltb (digitOf b) 10) refl (leb (v * 10 + digitOf b) largest) refl p m e
+    prints-step b v k n s (λ e′ o. prints s (v * 10 + digitOf b) (k + 1) n (omega arith) o e′) (ltb (digitOf b) 10) refl
+    (leb (v * 10 + digitOf b) largest) refl p m e
 
-first-step : (b n : ℕ) (s : List ℕ) (x : Bool) → ltb (digitOf b) 10 ≡ x → (b ≡ 48 → ⊥) → digitsFrom 0 0 (b ∷ s) ≡ Is n → (n ≤ largest) × (b ∷ s ≡ dec n)
+first-step : (b n : ℕ) (s : List ℕ) (x : Bool) → ltb (digitOf b) 10 ≡ x → (b ≡ 48 → ⊥) → digitsFrom 0 0 (b ∷ s) ≡ Is n
+    → (n ≤ largest) × (b ∷ s ≡ dec n)
 unfolding digitsFrom dec
-first-step b n s false d z e = never (rw d at e)
+first-step b n s false d z e = never (sym (rw d at e))
 first-step b n s true d z e =
     let h = ltb-true (digitOf b) 10 d in
     let v : 0 * 10 + digitOf b ≡ digitOf b = omega arith in
@@ -126,18 +139,19 @@ first-step b n s true d z e =
     let r = prints s (digitOf b) (0 + 1) n nz (omega arith) (rw (d, v, o) at e) in
     (r .0, sym (ap (λ (l : List ℕ). l ++ s) (dec-one 9 (digitOf b) h ∙ ap (λ (j : ℕ). j ∷ []) (byte-of b h))) ∙ r .1)
 
-numberIn-printed-step : (b n : ℕ) (s : List ℕ) (x : Bool) → eqb b 48 ≡ x → numberIn (b ∷ s) ≡ Is n → (n ≤ largest) × (b ∷ s ≡ dec n)
+numberIn-printed-step : (b n : ℕ) (s : List ℕ) (x : Bool) → eqb b 48 ≡ x → numberIn (b ∷ s) ≡ Is n
+    → (n ≤ largest) × (b ∷ s ≡ dec n)
 unfolding numberIn afterZero dec decWithin
 numberIn-printed-step b n s false z e = first-step b n s (ltb (digitOf b) 10) refl (eqb-false b 48 z) (rw z at e)
 numberIn-printed-step b n s true z e = zero-case s (rw z at e)
   where
     zero-case : (s : List ℕ) → afterZero s ≡ Is n → (n ≤ largest) × (b ∷ s ≡ dec n)
     zero-case [] e = let q : 0 ≡ n = cc in (omega arith, rw (← q, eqb-true b 48 z))
-    zero-case (a ∷ s) e = never e
+    zero-case (a ∷ s) e = never (sym e)
 
 pub numberIn-printed : (s : List ℕ) (n : ℕ) → numberIn s ≡ Is n → (n ≤ largest) × (s ≡ dec n)
 unfolding numberIn
-numberIn-printed [] n e = never e
+numberIn-printed [] n e = never (sym e)
 numberIn-printed (b ∷ s) n e = numberIn-printed-step b n s (eqb b 48) refl e
 
 -- ---- the printed form, by its last digit
@@ -152,7 +166,8 @@ dec-step n h l = rw (dec-more 9 n h, fuel 8 (n / 10) (omega arith))
 
 -- ---- how many digits there are
 
-within-step : (d f n : ℕ) → ((e : ℕ) → n / 10 < lim (suc e) → length (decWithin f (n / 10)) ≤ suc e) → Dec (n < 10) → n < lim (suc d)
+within-step : (d f n : ℕ) → ((e : ℕ) → n / 10 < lim (suc e) → length (decWithin f (n / 10)) ≤ suc e) → Dec (n < 10)
+    → n < lim (suc d)
     → length (decWithin (suc f) n) ≤ suc d
 unfolding lim
 within-step d f n ih (yes h) l = rw (dec-one f n h) (omega arith)

@@ -1,5 +1,5 @@
--- What is promised of numbers. `number` and `put_digits` have contracts that any two outcomes meet alike; and reading and printing
--- belong together: a field is read as n exactly if it is the printed form of n, and n is at most 65535.
+-- What is promised of numbers. `number` and `put_digits` have contracts that any two outcomes meet alike; and reading
+-- and printing belong together: a field is read as n exactly if it is the printed form of n, and n is at most 65535.
 -- Assumes nothing.
 use Prim.Native.Nat.{ℕ, _≤_}
 use mathlib.Core.List.{List}
@@ -22,5 +22,6 @@ reads-nothing-else s n e = numberIn-printed s n e
 pub number-unique : (s : List ℕ) {p q : Num} → p ≡ numberIn s → q ≡ numberIn s → p ≡ q
 number-unique s e f = e ∙ sym f
 
-pub put-digits-unique : (n : ℕ) {r q : ℕ} {o x y : List ℕ} → Wrote (dec n) o x r → Wrote (dec n) o y q → (x ≡ y) × (r ≡ q)
+pub put-digits-unique : (n : ℕ) {r q : ℕ} {o x y : List ℕ} → Wrote (dec n) o x r → Wrote (dec n) o y q
+    → (x ≡ y) × (r ≡ q)
 put-digits-unique n v w = wrote-unique v w

@@ -1,5 +1,5 @@
--- A number's text, as it is read and as it is printed. Paper: 01, "Lines", "A number has 1 to 5 digits, no leading zero but in 0
--- itself, and is at most 65535".
+-- A number's text, as it is read and as it is printed. Paper: 01, "Lines", "A number has 1 to 5 digits, no leading
+-- zero but in 0 itself, and is at most 65535".
 --
 --   digitOf b          the value of the byte b as a digit; 10 if it is none
 --   numberIn s         the number that the field s holds, or the place of its first bad byte

@@ -3,8 +3,8 @@ ghost use mathlib.Core.Path.{_≡_};
 ghost use Rattle.text_buffers.specs.Buffers.{Wrote};
 ghost use Rattle.text_numbers.specs.Numbers.{digitOf, numberIn, dec};
 
-// What a field holds: a number; or none, and then the place in the field of the first byte with which it stops being the start of
-// one (the field's length, if only its end came too early).
+// What a field holds: a number; or none, and then the place in the field of the first byte with which it stops being
+// the start of one (the field's length, if only its end came too early).
 pub enum Num {
     Is(u16),
     Bad(usize),

@@ -1,7 +1,8 @@
-// The reader of a line: the one lent line, and where its next field starts. Its functions take it apart and call `fields` on the slice
-// and the number. `field_from` has plain parameters: whoever reads a line calls that, and needs no proof by hand.
+// The reader of a line: the one lent line, and where its next field starts. Its functions take it apart and call
+// `text_fields` on the slice and the number. `field_from` and `next_from` have plain parameters: whoever reads a line
+// calls these, carries from field to field where the next one starts, and needs no proof by hand.
 ghost use mathlib.Core.Path.{_≡_};
-ghost use Rattle.text_fields.specs.Fields.{fieldAt, nextStart};
+ghost use Rattle.text_fields.specs.Fields.{nextStart, FieldOf};
 
 // A start past the line says that there are no more fields.
 pub struct Reader<'a> {
@@ -18,7 +19,7 @@ pub fn starting<'a>(line: &'a [u8], at: usize) -> Reader<'a>
 
 // Its next field, as that part of the line.
 pub fn field<'a>(r: Reader<'a>) -> &'a [u8]
-    ensures { λ f. ⌜ now f ≡ fieldAt (now (r .entry .line)) (r .entry .at) ⌝ }
+    ensures { λ f. ⌜ FieldOf (r .entry .line) (r .entry .at) f ⌝ }
 {
     text_fields::field(r.line, r.at)
 }
@@ -31,9 +32,17 @@ pub fn after<'a>(r: Reader<'a>) -> Reader<'a>
     Reader { line: r.line, at }
 }
 
-// The field that starts at `at`, by a reader from there on.
+// The field that starts at `at`: what the reader from there on hands back.
 pub fn field_from(line: &[u8], at: usize) -> &[u8]
-    ensures { λ f. ⌜ now f ≡ fieldAt (now (line .entry)) at ⌝ }
+    ensures { λ f. ⌜ FieldOf (line .entry) at f ⌝ }
 {
     field(starting(line, at))
+}
+
+// Where the field after the one at `at` starts: there the reader goes on.
+pub fn next_from(line: &[u8], at: usize) -> usize
+    ensures { λ n. ⌜ n ≡ nextStart (now (line .entry)) at ⌝ }
+{
+    let r = after(starting(line, at));
+    r.at
 }

@@ -1,6 +1,6 @@
--- 01, "How much each contract must say": any two outcomes that the contract of a writer allows coincide, the line's other bytes
--- included. Each is the theorem of `buffers` for its text. How many bytes a text takes is `fieldsText-six` and `fieldsText-four` of
--- WriterLaws.antt.
+-- 01, "How much each contract must say": any two outcomes that the contract of a writer allows coincide, the line's
+-- other bytes included. Each is the theorem of `text_buffers` for its text. How many bytes a text takes is
+-- `fieldsText-six` and `fieldsText-four` of WriterLaws.antt.
 -- Assumes nothing.
 use Prim.Native.Nat.{ℕ}
 use mathlib.Core.List.{List}
@@ -20,7 +20,8 @@ module _ {o x y : List ℕ} {r q : ℕ} where
   pub put-numbers-unique : (ns : List ℕ) → Wrote (fieldsText ns) o x r → Wrote (fieldsText ns) o y q → (x ≡ y) × (r ≡ q)
   put-numbers-unique ns v w = wrote-unique v w
 
-  pub put-part-unique : (s : List ℕ) (from n : ℕ) → Wrote (fieldsText (stretchOf s from n)) o x r → Wrote (fieldsText (stretchOf s from n)) o y q → (x ≡ y) × (r ≡ q)
+  pub put-part-unique : (s : List ℕ) (from n : ℕ) → Wrote (fieldsText (stretchOf s from n)) o x r
+      → Wrote (fieldsText (stretchOf s from n)) o y q → (x ≡ y) × (r ≡ q)
   put-part-unique s from n v w = wrote-unique v w
 
   module _ {at : ℕ} where
@@ -33,6 +34,7 @@ module _ {o x y : List ℕ} {r q : ℕ} where
     pub add-number-unique : (n : ℕ) → Added (fieldText n) o at x r → Added (fieldText n) o at y q → (x ≡ y) × (r ≡ q)
     add-number-unique n v w = added-unique v w
 
-    pub add-part-unique : (s : List ℕ) (from n : ℕ) → Added (fieldsText (stretchOf s from n)) o at x r → Added (fieldsText (stretchOf s from n)) o at y q
+    pub add-part-unique : (s : List ℕ) (from n : ℕ) → Added (fieldsText (stretchOf s from n)) o at x r
+        → Added (fieldsText (stretchOf s from n)) o at y q
         → (x ≡ y) × (r ≡ q)
     add-part-unique s from n v w = added-unique v w

@@ -1,5 +1,5 @@
--- Laws of specs/Texts.antt: a text written byte by byte and field by field, a part of the words as a slice, and how many bytes the
--- fields of numbers take.
+-- Laws of specs/Texts.antt: a text written byte by byte and field by field, a part of the words as a slice, and how
+-- many bytes the fields of numbers take.
 -- Assumes nothing.
 use Prim.Native.Nat.{ℕ, zero, suc, _+_, _-_, _*_, _≤_, _<_, min}
 use mathlib.Core.List.{List, [], _∷_, _++_, append-assoc, append-nil}
@@ -17,7 +17,8 @@ use Rattle.text_writers.specs.Texts.{fieldText, fieldsText, stretchOf, E
 -- ---- one more
 
 -- of a byte string
-pub bytes-more : (t : List ℕ) (i : ℕ) {o x y : List ℕ} {at r : ℕ} → i < length t → Wrote (take i t) o x at → Added (getD t i 0 ∷ []) x at y r
+pub bytes-more : (t : List ℕ) (i : ℕ) {o x y : List ℕ} {at r : ℕ} → i < length t → Wrote (take i t) o x at
+    → Added (getD t i 0 ∷ []) x at y r
     → Wrote (take (i + 1) t) o y r
 bytes-more t i h w a = rw (add-one, take-suc t i 0 h) (wrote-added w a)
 
@@ -27,7 +28,8 @@ fieldsText-snoc [] n = append-nil (fieldText n)
 fieldsText-snoc (m ∷ ns) n = rw (fieldsText-snoc ns n) (sym (append-assoc (fieldText m) (fieldsText ns) (fieldText n)))
 
 -- of a list of numbers
-pub fields-more : (ns : List ℕ) (i : ℕ) {o x y : List ℕ} {at r : ℕ} → i < length ns → Wrote (fieldsText (take i ns)) o x at
+pub fields-more : (ns : List ℕ) (i : ℕ) {o x y : List ℕ} {at r : ℕ} → i < length ns
+    → Wrote (fieldsText (take i ns)) o x at
     → Added (fieldText (getD ns i 0)) x at y r → Wrote (fieldsText (take (i + 1) ns)) o y r
 fields-more ns i h w a = rw (add-one, take-suc ns i 0 h, fieldsText-snoc (take i ns) (getD ns i 0)) (wrote-added w a)
 
@@ -41,7 +43,8 @@ pub stretchOf-none : (s : List ℕ) (from n : ℕ) → length s ≤ from → str
 stretchOf-none s from n h = rw (drop-of-length-le s h) (take-nil n)
 
 -- the part as a slice
-pub stretchOf-slice : (s : List ℕ) (from n e : ℕ) → e ≡ from + min n (length s - from) → take (e - from) (drop from s) ≡ stretchOf s from n
+pub stretchOf-slice : (s : List ℕ) (from n e : ℕ) → e ≡ from + min n (length s - from)
+    → take (e - from) (drop from s) ≡ stretchOf s from n
 stretchOf-slice s from n e q = go n (drop from s) (e - from) (rw length-drop (omega arith))
   where
     go : (n : ℕ) (t : List ℕ) (k : ℕ) → k ≡ min n (length t) → take k t ≡ take n t
@@ -54,28 +57,33 @@ stretchOf-slice s from n e q = go n (drop from s) (e - from) (rw length-drop (om
 
 -- ---- a property of every number
 
--- from that of each place
-pub every-of : (P : ℕ → Type 0) (ns : List ℕ) → ((i : ℕ) → i < length ns → P (getD ns i 0)) → Every P ns
-every-of P [] h = no-more
-every-of P (n ∷ ns) h = one-more (h 0 (omega arith)) (every-of P ns (λ i l. h (suc i) (omega arith)))
+module _ (P : ℕ → Type 0) where
+  pub every-append : {xs ys : List ℕ} → Every P xs → Every P ys → Every P (xs ++ ys)
+  every-append no-more b = b
+  every-append (one-more p a) b = one-more p (every-append a b)
 
-pub every-drop : {P : ℕ → Type 0} (i : ℕ) (ns : List ℕ) → Every P ns → Every P (drop i ns)
-every-drop zero ns a = a
-every-drop (suc i) [] a = no-more
-every-drop (suc i) (n ∷ ns) (one-more p a) = every-drop i ns a
+  every-take : (n : ℕ) {xs : List ℕ} → Every P xs → Every P (take n xs)
+  every-take zero a = no-more
+  every-take (suc n) no-more = no-more
+  every-take (suc n) (one-more p a) = one-more p (every-take n a)
 
-pub every-take : {P : ℕ → Type 0} (i : ℕ) (ns : List ℕ) → Every P ns → Every P (take i ns)
-every-take zero ns a = no-more
-every-take (suc i) [] a = no-more
-every-take (suc i) (n ∷ ns) (one-more p a) = one-more p (every-take i ns a)
+  every-drop : (n : ℕ) {xs : List ℕ} → Every P xs → Every P (drop n xs)
+  every-drop zero a = a
+  every-drop (suc n) no-more = no-more
+  every-drop (suc n) (one-more p a) = every-drop n a
 
-pub every-part : {P : ℕ → Type 0} (ns : List ℕ) (from k : ℕ) → Every P ns → Every P (stretchOf ns from k)
-every-part ns from k a = every-take k (drop from ns) (every-drop from ns a)
+  pub every-stretch : (from n : ℕ) {ws : List ℕ} → Every P ws → Every P (stretchOf ws from n)
+  every-stretch from n a = every-take n (every-drop from a)
+
+  pub every-parted : (xs : List ℕ) {ys : List ℕ} → Every P (xs ++ ys) → Every P xs × Every P ys
+  every-parted [] a = (no-more, a)
+  every-parted (x ∷ xs) (one-more p a) = let (b, c) = every-parted xs a in (one-more p b, c)
 
 -- ---- how many bytes there are
 
 -- w bytes a field
-fieldsText-wide : (w : ℕ) (P : ℕ → Type 0) → ((n : ℕ) → P n → length (fieldText n) ≤ w) → (ns : List ℕ) → Every P ns → length (fieldsText ns) ≤ w * length ns
+fieldsText-wide : (w : ℕ) (P : ℕ → Type 0) → ((n : ℕ) → P n → length (fieldText n) ≤ w) → (ns : List ℕ) → Every P ns
+    → length (fieldsText ns) ≤ w * length ns
 unfolding fieldsText
 fieldsText-wide w P h [] no-more = omega arith
 fieldsText-wide w P h (n ∷ ns) (one-more p a) =

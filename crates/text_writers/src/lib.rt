@@ -1,6 +1,7 @@
-// The fields of an answer. Each `put_` writer is lent the rest of the answer line, writes at its front and answers how many bytes it
-// wrote. Each `add_` writer lends such a rest, from the line's current end `at` on, and answers the new end. A text without room is
-// cut at the line's end, so no writer asks leave; with room the whole text is there (`wrote-room`, `added-room` of `buffers`).
+// The fields of an answer. Each `put_` writer is lent the rest of the answer line, writes at its front and answers
+// how many bytes it wrote. Each `add_` writer lends such a rest, from the line's current end `at` on, and answers the
+// new end. A text without room is cut at the line's end, so no writer asks leave; with room the whole text is there
+// (`wrote-room`, `added-room` of `text_buffers`).
 ghost use mathlib.Core.Path.{_≡_};
 ghost use Prim.Native.Nat.{_+_, _-_, min};
 ghost use Rattle.text_buffers.specs.Buffers.{Wrote, Added};
@@ -93,7 +94,8 @@ fn part_end(length: usize, from: usize, count: usize) -> usize
 
 // Writes `count` of the words from `from` on, or as many as there are, as numbers, each after a tab.
 pub fn put_part(out: &mut [u8], words: &[u16], from: usize, count: usize) -> usize
-    ensures { λ r. ⌜ Wrote (fieldsText (stretchOf (now (words .entry)) from count)) (now (out .entry)) (now (out .exit)) r ⌝ }
+    ensures { λ r. ⌜ Wrote (fieldsText (stretchOf (now (words .entry)) from count)) (now (out .entry))
+        (now (out .exit)) r ⌝ }
 {
     if words.len() < from {
         return 0;
@@ -104,7 +106,8 @@ pub fn put_part(out: &mut [u8], words: &[u16], from: usize, count: usize) -> usi
 
 // The same from `at` on.
 pub fn add_part(out: &mut [u8], at: usize, words: &[u16], from: usize, count: usize) -> usize
-    ensures { λ r. ⌜ Added (fieldsText (stretchOf (now (words .entry)) from count)) (now (out .entry)) at (now (out .exit)) r ⌝ }
+    ensures { λ r. ⌜ Added (fieldsText (stretchOf (now (words .entry)) from count)) (now (out .entry)) at
+        (now (out .exit)) r ⌝ }
 {
     if out.len() < at {
         return at;

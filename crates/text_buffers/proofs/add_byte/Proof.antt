@@ -1,4 +1,5 @@
--- `text_buffers::add_byte` meets its contract: past the end nothing is written (`added-past`), before it one byte is (`added-byte`).
+-- `text_buffers::add_byte` meets its contract: past the end nothing is written (`added-past`), before it one byte is
+-- (`added-byte`).
 -- Assumes nothing.
 use Rattle.text_buffers.proofs.BufferLaws.{added-byte, added-past}
 use borrow.Author.Needs.{needs}

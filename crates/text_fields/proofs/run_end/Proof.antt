@@ -1,4 +1,5 @@
--- `text_fields::run_end` meets its contract. The invariant: the place reached, and the run from there on, still give the run's end.
+-- `text_fields::run_end` meets its contract. The invariant: the place reached, and the run from there on, still give
+-- the run's end.
 -- Assumes nothing.
 use Prim.Native.Nat.{_+_, _-_}
 use mathlib.Core.Path.{_≡_, refl}
@@ -27,7 +28,11 @@ returns : tie.Need-returns Inv-loop μ-loop
 unfolding endFrom
 returns c =
     let x = c .before .before .before in
-    omega (arith, runTo-stop (x .before .args .stop) (x .before .args .bytes .now) (x .loop .i) (c .before .before .loop-test .taken) (c .if1 .taken))
+    omega (
+      arith,
+      runTo-stop (x .before .args .stop) (x .before .args .bytes .now) (x .loop .i)
+          (c .before .before .loop-test .taken) (c .if1 .taken),
+    )
 
 add-i : tie.Need-add-i Inv-loop μ-loop
 add-i c = search needs
@@ -39,11 +44,20 @@ loop-again : tie.Need-loop-again Inv-loop μ-loop
 unfolding endFrom
 loop-again c =
     let x = c .before .before .before in
-    omega (arith, runTo-go (x .before .args .stop) (x .before .args .bytes .now) (x .loop .i) (c .before .before .loop-test .taken) (c .if1 .left))
+    omega (
+      arith,
+      runTo-go (x .before .args .stop) (x .before .args .bytes .now) (x .loop .i)
+          (c .before .before .loop-test .taken) (c .if1 .left),
+    )
 
 returns-2 : tie.Need-returns-2 Inv-loop μ-loop
 unfolding endFrom
-returns-2 c = omega (arith, runTo-end (c .before .before .args .stop) (c .before .before .args .bytes .now) (c .before .loop .i) (c .loop-test .left))
+returns-2 c =
+    omega (
+      arith,
+      runTo-end (c .before .before .args .stop) (c .before .before .args .bytes .now) (c .before .loop .i)
+          (c .loop-test .left),
+    )
 
 pub run-end-spec : {M : Type 1} → statement M
 run-end-spec =

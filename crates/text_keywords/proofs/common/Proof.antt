@@ -1,4 +1,5 @@
--- `text_keywords::common` meets its contract. The invariant: the bytes passed, and what is left of both lists in common, give the answer.
+-- `text_keywords::common` meets its contract. The invariant: the bytes passed, and what is left of both lists in
+-- common, give the answer.
 -- Assumes nothing.
 use Rattle.text_keywords.specs.Keywords.{common}
 use Rattle.text_keywords.proofs.KeywordLaws.{common-end, common-short, common-stop, common-go}
@@ -33,7 +34,11 @@ shared-slice-read-if2-2 c = search needs
 returns-2 : tie.Need-returns-2 Inv-loop μ-loop
 returns-2 c =
     let x = c .before .before .before .before .before in
-    omega (arith, common-stop (x .before .args .a .now) (x .before .args .b .now) (x .loop .i) (search needs) (search needs) (c .if2 .taken))
+    omega (
+      arith,
+      common-stop (x .before .args .a .now) (x .before .args .b .now) (x .loop .i) (search needs)
+          (search needs) (c .if2 .taken),
+    )
 
 add-i : tie.Need-add-i Inv-loop μ-loop
 add-i c = search needs
@@ -44,10 +49,19 @@ loop-less c = search needs
 loop-again : tie.Need-loop-again Inv-loop μ-loop
 loop-again c =
     let x = c .before .before .before .before .before in
-    omega (arith, common-go (x .before .args .a .now) (x .before .args .b .now) (x .loop .i) (search needs) (search needs) (c .if2 .left))
+    omega (
+      arith,
+      common-go (x .before .args .a .now) (x .before .args .b .now) (x .loop .i) (search needs)
+          (search needs) (c .if2 .left),
+    )
 
 returns-3 : tie.Need-returns-3 Inv-loop μ-loop
-returns-3 c = omega (arith, common-end (c .before .before .args .a .now) (c .before .before .args .b .now) (c .before .loop .i) (search needs))
+returns-3 c =
+    omega (
+      arith,
+      common-end (c .before .before .args .a .now) (c .before .before .args .b .now) (c .before .loop .i)
+          (search needs),
+    )
 
 pub common-spec : {M : Type 1} → statement M
 common-spec =

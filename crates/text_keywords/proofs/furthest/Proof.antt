@@ -78,35 +78,47 @@ field-2 c = field-1 (c .before .before .before)
 
 far-async : (c : tie.After-most2) → c .most2 .result ≡ longest (field-2 c) (Step Async ∷ Step End ∷ [])
 unfolding textOf
-far-async c = longest-more _ (Step Async) _ _ _ _ (c .most2 .ensures) (c .before .common2 .ensures) (far-end (c .before .before .before))
+far-async c =
+    longest-more _ (Step Async) _ _ _ _ (c .most2 .ensures) (c .before .common2 .ensures)
+    (far-end (c .before .before .before))
 
 abbrev field-3 : tie.After-most3 → List ℕ
 field-3 c = field-2 (c .before .before .before)
 
 far-get : (c : tie.After-most3) → c .most3 .result ≡ longest (field-3 c) (Step Get ∷ Step Async ∷ Step End ∷ [])
 unfolding textOf
-far-get c = longest-more _ (Step Get) _ _ _ _ (c .most3 .ensures) (c .before .common3 .ensures) (far-async (c .before .before .before))
+far-get c =
+    longest-more _ (Step Get) _ _ _ _ (c .most3 .ensures) (c .before .common3 .ensures)
+    (far-async (c .before .before .before))
 
 abbrev field-4 : tie.After-most4 → List ℕ
 field-4 c = field-3 (c .before .before .before)
 
-far-set : (c : tie.After-most4) → c .most4 .result ≡ longest (field-4 c) (Step Set ∷ Step Get ∷ Step Async ∷ Step End ∷ [])
+far-set : (c : tie.After-most4)
+    → c .most4 .result ≡ longest (field-4 c) (Step Set ∷ Step Get ∷ Step Async ∷ Step End ∷ [])
 unfolding textOf
-far-set c = longest-more _ (Step Set) _ _ _ _ (c .most4 .ensures) (c .before .common4 .ensures) (far-get (c .before .before .before))
+far-set c =
+    longest-more _ (Step Set) _ _ _ _ (c .most4 .ensures) (c .before .common4 .ensures)
+    (far-get (c .before .before .before))
 
 abbrev field-5 : tie.After-most5 → List ℕ
 field-5 c = field-4 (c .before .before .before)
 
-far-new : (c : tie.After-most5) → c .most5 .result ≡ longest (field-5 c) (Step New ∷ Step Set ∷ Step Get ∷ Step Async ∷ Step End ∷ [])
+far-new : (c : tie.After-most5)
+    → c .most5 .result ≡ longest (field-5 c) (Step New ∷ Step Set ∷ Step Get ∷ Step Async ∷ Step End ∷ [])
 unfolding textOf
-far-new c = longest-more _ (Step New) _ _ _ _ (c .most5 .ensures) (c .before .common5 .ensures) (far-set (c .before .before .before))
+far-new c =
+    longest-more _ (Step New) _ _ _ _ (c .most5 .ensures) (c .before .common5 .ensures)
+    (far-set (c .before .before .before))
 
 abbrev field-6 : tie.After-most6 → List ℕ
 field-6 c = field-5 (c .before .before .before)
 
-far-open : (c : tie.After-most6) → c .most6 .result ≡ longest (field-6 c) (Open ∷ Step New ∷ Step Set ∷ Step Get ∷ Step Async ∷ Step End ∷ [])
+far-open : (c : tie.After-most6)
+    → c .most6 .result ≡ longest (field-6 c) (Open ∷ Step New ∷ Step Set ∷ Step Get ∷ Step Async ∷ Step End ∷ [])
 unfolding textOf
-far-open c = longest-more _ Open _ _ _ _ (c .most6 .ensures) (c .before .common6 .ensures) (far-new (c .before .before .before))
+far-open c =
+    longest-more _ Open _ _ _ _ (c .most6 .ensures) (c .before .common6 .ensures) (far-new (c .before .before .before))
 
 returns : tie.Need-returns
 unfolding keywords

@@ -1,4 +1,5 @@
--- `text_keywords::same` meets its contract. The invariant: what is left of both lists is the same exactly if the lists are.
+-- `text_keywords::same` meets its contract. The invariant: what is left of both lists is the same exactly if the
+-- lists are.
 -- Assumes nothing.
 use Rattle.text_keywords.specs.Keywords.{same}
 use Rattle.text_keywords.proofs.KeywordLaws.{same-lengths, same-end, same-stop, same-go}
@@ -40,8 +41,12 @@ loop-less c = search needs
 
 loop-again : tie.Need-loop-again Inv-loop μ-loop
 loop-again c =
-    let x = c .before .before .before .before in
-    (search needs, search needs, sym (same-go _ _ (x .loop .i) (search needs) (search needs) (c .if2 .left)) ∙ x .loop .inv .2)
+    let x = c .before .before .before .before in (
+      search needs,
+      search needs,
+      sym (same-go _ _ (x .loop .i) (search needs) (search needs) (c .if2 .left))
+          ∙ x .loop .inv .2,
+    )
 
 returns-3 : tie.Need-returns-3 Inv-loop μ-loop
 returns-3 c =

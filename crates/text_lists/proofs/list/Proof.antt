@@ -1,12 +1,12 @@
--- `text_lists::list` meets its contract. The invariant is `At`: the entries seen are in the lent words, and what is left of the list still
--- gives the answer; each way on is one law of `At`.
+-- `text_lists::list` meets its contract. The invariant is `At`: the entries seen are in the lent words, and what is
+-- left of the list still gives the answer; each way on is one law of `At`.
 -- Assumes nothing.
-use Prim.Native.Nat.{_-_}
+use Prim.Native.Nat.{_+_, _-_}
 use mathlib.Core.Path.{_≡_, sym, _∙_}
 use lib.ListN.{length}
 use Rattle.text_records.specs.Records.{numberAt}
 use Rattle.text_records.specs.declared.Numbered.the-variants as S
-use Rattle.text_records.proofs.RecordLaws.{numberAt-ends}
+use Rattle.text_records.proofs.RecordLaws.{numberAt-next}
 use Rattle.text_lists.proofs.ListLaws.{At, at-start, at-bad, at-is, at-end, at-size}
 use borrow.Author.Needs.{needs}
 use native.Mathlib.Omega.{arith}
@@ -14,15 +14,28 @@ use Rattle.text_lists.proofs.list.Statement.{statement}
 use Rattle.text_lists.proofs.list.Tie as tie
 
 abbrev Inv-loop : tie.InvT-loop
-Inv-loop rest out₀ e₀ n₀ out e n = At rest out₀ out n e
+Inv-loop rest out₀ a₀ n₀ out a n = At rest out₀ out n a
 
 abbrev μ-loop : tie.MeasureT-loop
-μ-loop rest out₀ e₀ n₀ out e n = length rest - e
+μ-loop rest out₀ a₀ n₀ out a n = length rest + 1 - a
 
--- an entry that was read: what `numberAt` says of it
-read : (c : tie.After-slice-known2 Inv-loop μ-loop) → let b = c .before .before .before .before .before .before .before .before .before in
-    numberAt (b .before .before .before .args .rest .now) (b .loop .e) ≡ S.Is (c .before .before .before .before .before .v .given .0 .0) (c .before .before .before .before .before .v .given .0 .1 .0)
-read c = sym (c .before .before .before .before .before .before .before .number-at .ensures) ∙ c .before .before .before .before .before .v .given .1
+-- the places of a turn: it has begun, an entry was read, and it was kept
+abbrev turn : tie.After-number-at Inv-loop μ-loop → tie.In-loop Inv-loop μ-loop
+turn c = c .before
+
+abbrev asked : tie.After-v Inv-loop μ-loop → tie.After-number-at Inv-loop μ-loop
+asked c = c .before .before
+
+abbrev kept : tie.After-slice-known2 Inv-loop μ-loop → tie.After-keep Inv-loop μ-loop
+kept c = c .before .before
+
+abbrev entry : tie.After-keep Inv-loop μ-loop → tie.After-v Inv-loop μ-loop
+entry c = c .before .before .before
+
+-- what `numberAt` says of the entry
+read : (c : tie.After-v Inv-loop μ-loop) → let l = turn (asked c) .before in
+    numberAt (l .before .before .before .args .rest .now) (l .loop .a) ≡ S.Is (c .v .given .0 .0) (c .v .given .0 .1 .0)
+read c = sym (asked c .number-at .ensures) ∙ c .v .given .1
 
 loop-holds : tie.Need-loop-holds Inv-loop μ-loop
 loop-holds c = at-start _ _
@@ -38,25 +51,36 @@ keep-requires c κs = search needs
 
 add-n : tie.Need-add-n Inv-loop μ-loop
 add-n c =
-    let a = c .before .before .before .before .before .before .before .before .before .loop .inv in
-    let h = a .half in
-    let w = a .within in
+    let t = turn (asked (entry (kept c))) in
+    let h = t .before .loop .inv .half in
+    let l = t .loop-test .taken in
     search needs
 
 loop-less : tie.Need-loop-less Inv-loop μ-loop
-loop-less c = let p = numberAt-ends _ _ (c .before .before .before .before .before .before .before .before .loop-test .taken) _ _ (read c) in omega arith
+loop-less c =
+    let v = entry (kept c) in
+    let l = turn (asked v) .loop-test .taken in
+    let p = numberAt-next _ _ _ _ (read v) in
+    omega (arith, p .past, p .within)
 
 loop-again : tie.Need-loop-again Inv-loop μ-loop
-loop-again c = rw (c .before .before .keep .ensures) (at-is _ _ _ _ _ (c .before .before .before .before .before .before .before .before .loop-test .taken) _ _ (c .before .before .before .before .before .before .before .before .before .loop .inv) (read c))
+loop-again c =
+    let v = entry (kept c) in
+    let t = turn (asked v) in
+    rw (kept c .keep .ensures) (at-is _ _ _ _ _ (t .loop-test .taken) _ _ (t .before .loop .inv) (read v))
 
 enum-known-c : tie.Need-enum-known-c Inv-loop μ-loop
 enum-known-c c = search needs
 
 same-length : tie.Need-same-length Inv-loop μ-loop
-same-length c = at-size _ _ _ _ _ (c .before .before .before .before .before .loop .inv)
+same-length c = at-size _ _ _ _ _ (turn (c .before .before .before) .before .loop .inv)
 
 returns : tie.Need-returns Inv-loop μ-loop
-returns c = at-bad _ _ _ _ _ (c .before .before .before .before .loop-test .taken) _ (c .before .before .before .before .before .loop .inv) (sym (c .before .before .before .number-at .ensures) ∙ c .before .c .given .1)
+returns c =
+    let number = c .before .before .before in
+    let t = turn number in
+    at-bad _ _ _ _ _ (t .loop-test .taken) _ (t .before .loop .inv)
+    (sym (number .number-at .ensures) ∙ c .before .c .given .1)
 
 same-length-2 : tie.Need-same-length-2 Inv-loop μ-loop
 same-length-2 c = at-size _ _ _ _ _ (c .before .loop .inv)

@@ -1,4 +1,5 @@
--- `text_lists::list_after` meets its contract: the part of the line from `at` on is what `list` is handed, and past the line it is empty.
+-- `text_lists::list_after` meets its contract: the part of the line from `at` on is what `list` is handed, and past
+-- the line it is empty.
 -- Assumes nothing.
 use native.Mathlib.Omega.{arith}
 use Rattle.text_buffers.proofs.BufferLaws.{rest-lent}
@@ -27,8 +28,10 @@ same-length c = search needs
 
 returns-2 : tie.Need-returns-2
 returns-2 c =
-    let a = c .before .before .before .before .before .before .before .before .args in
-    rw (rest-lent (a .line .now) (a .at)) at (c .before .before .list .ensures)
+    let listed = c .before .before in
+    let lent = listed .before .before in
+    let a = lent .before .before .before .before .args in
+    rw (rest-lent (a .line .now) (a .at)) at (listed .list .ensures)
 
 pub list-after-spec : {M : Type 1} → statement M
 list-after-spec =

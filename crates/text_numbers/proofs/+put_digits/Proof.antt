@@ -1,4 +1,5 @@
--- `text_numbers::put_digits` meets its contract, by recursion on n: the digits of n / 10, and then the last one (`dec-step`).
+-- `text_numbers::put_digits` meets its contract, by recursion on n: the digits of n / 10, and then the last one
+-- (`dec-step`).
 -- Assumes nothing.
 use Rattle.text_numbers.proofs.PrintLaws.{digits-one, digits-more}
 use borrow.Author.Needs.{needs}
@@ -62,7 +63,8 @@ put-digits-returns : (t : ℕ) → put-digits-lts.Need-returns (
   put-digits-below t,
   put-digits.Post,
 ) (put-digits-at t) put-digits.Post
-put-digits-returns t c = digits-one _ (c .before .before .before .before .if1 .taken) (c .before .before .add-byte .ensures)
+put-digits-returns t c =
+    digits-one _ (c .before .before .before .before .if1 .taken) (c .before .before .add-byte .ensures)
 
 put-digits-put-digits-requires : (t : ℕ) → put-digits-lts.Need-put-digits-requires (
   add-byte-reads.Asked,
@@ -112,7 +114,8 @@ put-digits-returns-2 : (t : ℕ) → put-digits-lts.Need-returns-2 (
 ) (put-digits-at t) put-digits.Post
 put-digits-returns-2 t c =
     let b = c .before .before .before .before .before .before in
-    digits-more _ (b .before .before .if1 .left) (search needs) (b .put-digits .ensures) (c .before .before .add-byte2 .ensures)
+    digits-more _ (b .before .before .if1 .left) (search needs) (b .put-digits .ensures)
+    (c .before .before .add-byte2 .ensures)
 
 pub +put-digits-spec : {M : Type 1} → statement M
 +put-digits-spec = close μ-put-digits λ t. put-digits-lts.spec (

@@ -1,12 +1,13 @@
--- `text_numbers::number` meets its contract. The invariant: what is left of the field, with the value and the count of the digits
--- before it, still gives the answer; each way out of a turn is one law of `digitsFrom`.
+-- `text_numbers::number` meets its contract. The invariant: what is left of the field, with the value and the count
+-- of the digits before it, still gives the answer; each way out of a turn is one law of `digitsFrom`.
 -- Assumes nothing.
 use Prim.Native.Nat.{_-_, _≤_}
 use mathlib.Core.Path.{_≡_, sym, _∙_}
 use borrow.Author.Needs.{needs}
 use lib.ListN.{length, drop}
 use Rattle.text_numbers.specs.Numbers.{largest, digitsFrom, numberIn}
-use Rattle.text_numbers.proofs.NumberLaws.{numberIn-empty, numberIn-zero, numberIn-zero-more, numberIn-start, digitsFrom-end, digitsFrom-stop, digitsFrom-over, digitsFrom-go}
+use Rattle.text_numbers.proofs.NumberLaws.{numberIn-empty, numberIn-zero, numberIn-zero-more, numberIn-start}
+use Rattle.text_numbers.proofs.NumberLaws.{digitsFrom-end, digitsFrom-stop, digitsFrom-over, digitsFrom-go}
 use Rattle.text_numbers.proofs.number.Statement.{statement}
 use Rattle.text_numbers.proofs.number.Tie as tie
 
@@ -40,7 +41,8 @@ digit-requires c κs = search needs
 returns-4 : tie.Need-returns-4 Inv-loop μ-loop
 returns-4 c =
     let b = c .before .before .before in
-    sym (digitsFrom-stop _ _ _ _ _ (c .before .digit .ensures) (b .loop-test .taken) (c .if4 .taken)) ∙ b .before .loop .inv .2
+    sym (digitsFrom-stop _ _ _ _ _ (c .before .digit .ensures) (b .loop-test .taken) (c .if4 .taken))
+    ∙ b .before .loop .inv .2
 
 mul-w : tie.Need-mul-w Inv-loop μ-loop
 mul-w c = search needs
@@ -51,7 +53,8 @@ add-w c = search needs
 returns-5 : tie.Need-returns-5 Inv-loop μ-loop
 returns-5 c =
     let b = c .before .before .before .before in
-    sym (digitsFrom-over _ _ _ _ _ (c .before .before .digit .ensures) (b .loop-test .taken) (c .before .if4 .left) (c .if5 .taken)) ∙ b .before .loop .inv .2
+    sym (digitsFrom-over _ _ _ _ _ (c .before .before .digit .ensures) (b .loop-test .taken) (c .before .if4 .left)
+    (c .if5 .taken)) ∙ b .before .loop .inv .2
 
 add-i : tie.Need-add-i Inv-loop μ-loop
 add-i c = search needs
@@ -64,7 +67,8 @@ loop-again c =
     let b = c .before .before .before .before in (
       search needs,
       search needs,
-      sym (digitsFrom-go _ _ _ _ _ (c .before .before .digit .ensures) (b .loop-test .taken) (c .before .if4 .left) (c .if5 .left)) ∙ b .before .loop .inv .2,
+      sym (digitsFrom-go _ _ _ _ _ (c .before .before .digit .ensures) (b .loop-test .taken) (c .before .if4 .left)
+          (c .if5 .left)) ∙ b .before .loop .inv .2,
     )
 
 cast-t17 : tie.Need-cast-t17 Inv-loop μ-loop

@@ -1,7 +1,9 @@
--- `text_records::record_of` meets its contract: the line goes by its word (`by`), and each arm is the clause of `afterWord` for that word.
+-- `text_records::record_of` meets its contract: the line goes by its word (`by`), and each arm is the clause of
+-- `afterWord` for that word.
 -- Assumes nothing.
+use mathlib.Core.List.{List}
+use Prim.Native.Nat.{ℕ}
 use mathlib.Core.Path.{_≡_, sym, _∙_}
-use lib.ListN.{length}
 use Rattle.text_keywords.specs.declared.Keyword.{Keyword}
 use Rattle.text_records.specs.Records.{ofPair, afterWord, recordOf}
 use Rattle.text_records.proofs.RecordLaws.{recordOf-by}
@@ -9,8 +11,23 @@ use borrow.Author.Needs.{needs}
 use Rattle.text_records.proofs.record_of.Statement.{statement}
 use Rattle.text_records.proofs.record_of.Tie as tie
 
+-- the line that was lent
+abbrev lent : tie.After-keyword-of → List ℕ
+lent c = c .before .before .before .before .args .line .now
+
+-- after the word, whichever it is
+by : (c : tie.After-keyword-of) {v : Keyword} → c .keyword-of .result ≡ v
+    → recordOf (lent c) ≡ afterWord (lent c) (c .before .next-from .result) v
+by c told =
+    let next = c .before in
+    recordOf-by _ _ _ _ _ (next .before .field-from .ensures .bytes) (next .next-from .ensures)
+    (c .keyword-of .ensures) told
+
 field-from-requires : tie.Need-field-from-requires
 field-from-requires c κs = search needs
+
+next-from-requires : tie.Need-next-from-requires
+next-from-requires c κs = search needs
 
 keyword-of-requires : tie.Need-keyword-of-requires
 keyword-of-requires c κs = search needs
@@ -21,8 +38,8 @@ enum-told c = search needs
 last-pair-requires : tie.Need-last-pair-requires
 last-pair-requires c κs = search needs
 
-enum-known-a : tie.Need-enum-known-a
-enum-known-a c = search needs
+enum-known-x : tie.Need-enum-known-x
+enum-known-x c = search needs
 
 enum-known-k : tie.Need-enum-known-k
 enum-known-k c = search needs
@@ -36,36 +53,44 @@ step-after-requires c κs = search needs
 enum-known-k-2 : tie.Need-enum-known-k-2
 enum-known-k-2 c = search needs
 
--- after the word, whichever it is
-by : (c : tie.After-keyword-of) {v : Keyword} → c .keyword-of .result ≡ v
-    → recordOf (c .before .before .before .args .line .now) ≡ afterWord (c .before .before .before .args .line .now) (length (c .before .field-from .result .now)) v
-by c told = recordOf-by _ _ _ _ (c .before .field-from .ensures) (c .keyword-of .ensures) told
-
 returns : tie.Need-returns
 unfolding afterWord ofPair
-returns c = rw (by (c .before .before .before .before .before .before) (c .before .before .before .before .enum-told .given .1), sym (c .before .before .before .last-pair .ensures) ∙ c .before .a .given .1)
+returns c =
+    let read = c .before .before .before in
+    rw (
+      by (read .before .before .before) (read .before .enum-told .given .1),
+      sym (read .last-pair .ensures) ∙ c .before .x .given .1,
+    )
 
 returns-2 : tie.Need-returns-2
 unfolding afterWord ofPair
-returns-2 c = rw (by (c .before .before .before .before .before .before) (c .before .before .before .before .enum-told .given .1), sym (c .before .before .before .last-pair .ensures) ∙ c .before .k .given .1)
+returns-2 c =
+    let read = c .before .before .before in
+    rw (
+      by (read .before .before .before) (read .before .enum-told .given .1),
+      sym (read .last-pair .ensures) ∙ c .before .k .given .1,
+    )
 
 returns-3 : tie.Need-returns-3
 unfolding afterWord ofPair
-returns-3 c = c .step-after .ensures ∙ sym (by (c .before .before .before .before) (c .before .before .kind .given .1))
+returns-3 c =
+    let step = c .before .before in
+    c .step-after .ensures ∙ sym (by (step .before .before) (step .kind .given .1))
 
 returns-4 : tie.Need-returns-4
 unfolding afterWord ofPair
-returns-4 c = sym (by (c .before .before .before) (c .before .k2 .given .1))
+returns-4 c = let other = c .before in sym (by (other .before .before) (other .k2 .given .1))
 
 pub record-of-spec : {M : Type 1} → statement M
 record-of-spec =
     tie.close
     (tie.spec
     field-from-requires
+    next-from-requires
     keyword-of-requires
     enum-told
     last-pair-requires
-    enum-known-a
+    enum-known-x
     enum-known-k
     enum-known-kind
     step-after-requires

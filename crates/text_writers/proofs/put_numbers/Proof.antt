@@ -1,4 +1,5 @@
--- `text_writers::put_numbers` meets its contract. The invariant: the first words' fields were written, each turn one more (`fields-more`).
+-- `text_writers::put_numbers` meets its contract. The invariant: the first words' fields were written, each turn one
+-- more (`fields-more`).
 -- Assumes nothing.
 use Prim.Native.Nat.{_-_, _≤_}
 use lib.ListN.{length, take}
@@ -40,8 +41,11 @@ loop-less c = search needs
 
 loop-again : tie.Need-loop-again Inv-loop μ-loop
 loop-again c =
-    let a = rw (c .before .before .before .wide .ensures) at (c .before .before .add-number .ensures) in
-    (search needs, fields-more _ _ (c .before .before .before .before .before .before .loop-test .taken) (c .before .before .before .before .before .before .before .loop .inv .1) a)
+    let added = c .before .before in
+    let wide = added .before in
+    let turn = wide .before .before .before in
+    let a = rw (wide .wide .ensures) at (added .add-number .ensures) in
+    (search needs, fields-more _ _ (turn .loop-test .taken) (turn .before .loop .inv .1) a)
 
 same-length : tie.Need-same-length Inv-loop μ-loop
 same-length c = wrote-length (c .before .loop .inv .1)
