@@ -137,8 +137,9 @@ fn awaited(program: &Program) -> Result<(), String> {
     let trace = blocks::steps(AWAITED_BYTES);
     let answers = Model::PAPER.bench(&trace);
     let mut held = Held::start(program);
+    let ends = |&byte: &u8| byte == b'\n';
     let mut lines = 0;
-    for (line, answer) in trace.split_inclusive(|&byte| byte == b'\n').zip(answers.split_inclusive(|&byte| byte == b'\n')) {
+    for (line, answer) in trace.split_inclusive(ends).zip(answers.split_inclusive(ends)) {
         held.write(line)?;
         if !line.ends_with(b"\n") {
             held.close_input();
