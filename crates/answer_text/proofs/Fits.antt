@@ -103,7 +103,7 @@ pub shown-words : (F : Form) (n : ℕ) (s : Tables) (x : Step) (rs : List ℕ)
 shown-words F n s x rs =
     fieldsOf-over (step F n s x .answer) (step F n s x .words) rs (omega (arith, the-answer-counts-its-words F n s x))
 
--- ---- its numbers are ofLines
+-- ---- its numbers are small
 
 -- the values and the report words of an outcome
 record Modest (o : Outcome) : Type 0 where
@@ -229,7 +229,7 @@ step-modest m s x =
         (λ y. refusal-modest s (size .tasks) (size .promises) sd x _)
         (λ y. effect-modest s (size .tasks) (size .promises) sd x y)
 
--- a refusal's number is one of the paper's, and any other is ofLines
+-- a refusal's number is one of the paper's, and any other is small
 answer-low : (a : Answer) → (Refusal a → Low (numberOf a)) → Low (numberOf a)
 answer-low a h = go (accepted-or-refused a)
   where

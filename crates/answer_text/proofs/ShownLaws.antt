@@ -10,31 +10,31 @@ use native.Mathlib.Omega.{arith}
 use lib.ListN.{length, drop, length-append, length-take, length-drop}
 use Rattle.words.specs.Lists.{over, In, top, pop}
 use Rattle.text_writers.specs.Texts.{stretchOf, Every, no-more, one-more}
-use Rattle.text_writers.proofs.WriterLaws.{every-append, every-part, every-parted}
+use Rattle.text_writers.proofs.WriterLaws.{every-append, every-stretch, every-parted}
 use Rattle.rules.specs.Answers.{laid, numberOf, valueIn, valuesOf, wordCount}
 use Rattle.rules.specs.declared.Answer.{Answer}
 use Rattle.rules.specs.declared.Part.{Part}
-use Rattle.rules.specs.declared.Layout.{Layout}
 use Rattle.answer_text.specs.AnswerText.{numberShown, partShown, fieldsIn, fieldsOf}
 
 -- ---- the report's first words
 
-part-append : (from n : ℕ) (xs ys : List ℕ) → from + n ≤ length xs → stretchOf (xs ++ ys) from n ≡ stretchOf xs from n
-part-append zero zero xs ys h = refl
-part-append zero (suc n) [] ys h = absurd (omega arith)
-part-append zero (suc n) (x ∷ xs) ys h = ap (λ (r : List ℕ). x ∷ r) (part-append zero n xs ys (omega arith))
-part-append (suc from) n [] ys h = absurd (omega arith)
-part-append (suc from) n (x ∷ xs) ys h = part-append from n xs ys (omega arith)
+stretchOf-append : (from n : ℕ) (xs ys : List ℕ) → from + n ≤ length xs
+    → stretchOf (xs ++ ys) from n ≡ stretchOf xs from n
+stretchOf-append zero zero xs ys h = refl
+stretchOf-append zero (suc n) [] ys h = absurd (omega arith)
+stretchOf-append zero (suc n) (x ∷ xs) ys h = ap (λ (r : List ℕ). x ∷ r) (stretchOf-append zero n xs ys (omega arith))
+stretchOf-append (suc from) n [] ys h = absurd (omega arith)
+stretchOf-append (suc from) n (x ∷ xs) ys h = stretchOf-append from n xs ys (omega arith)
 
 -- a part of the words that were written is theirs, and not the older report's
-pub part-over : (from n : ℕ) (ws rs : List ℕ) → from + n ≤ length ws
+pub stretchOf-over : (from n : ℕ) (ws rs : List ℕ) → from + n ≤ length ws
     → stretchOf (over ws rs) from n ≡ stretchOf ws from n
 unfolding over
-part-over from n ws rs h = part-append from n ws (drop (length ws) rs) h
+stretchOf-over from n ws rs h = stretchOf-append from n ws (drop (length ws) rs) h
 
 shown-over : (p : Part) (ws rs : List ℕ) (from : ℕ) → from + p .words ≤ length ws
     → partShown p (over ws rs) from ≡ partShown p ws from
-shown-over p ws rs from h = rw (part-over from (p .words) ws rs h)
+shown-over p ws rs from h = rw (stretchOf-over from (p .words) ws rs h)
 
 pub fieldsOf-over : (a : Answer) (ws rs : List ℕ) → wordCount a ≤ length ws → fieldsOf a (over ws rs) ≡ fieldsOf a ws
 unfolding fieldsIn
@@ -90,7 +90,7 @@ module _ (P : ℕ → Type 0) where
     where
       go : (b : Bool) → Every P (cond b (p .value ∷ []) [])
           → Every P (cond b (p .value ∷ stretchOf ws from (p .words)) [])
-      go true (one-more q u) = one-more q (every-part P from (p .words) w)
+      go true (one-more q u) = one-more q (every-stretch P from (p .words) w)
       go false u = no-more
 
   -- what holds of the answer's number, its values and the words holds of the fields

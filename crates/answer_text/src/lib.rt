@@ -5,72 +5,45 @@ use answer_words::layout;
 use rules::Answer;
 use rules::Layout;
 use rules::Part;
+use text_writers::add_bytes;
 ghost use mathlib.Core.List.{[], _∷_};
 ghost use Rattle.text_buffers.specs.Buffers.{Wrote, Added};
 ghost use Rattle.text_writers.specs.Texts.{fieldsText, stretchOf};
-ghost use Rattle.answer_text.specs.AnswerText.{refusedText, openedText, madeText, setText, valueText};
-ghost use Rattle.answer_text.specs.AnswerText.{blamedText, waitsText, cycleText, startedText, endedText};
-ghost use Rattle.answer_text.specs.AnswerText.{wordFor, numberShown, partShown, fieldsIn, answerText};
+ghost use Rattle.answer_text.specs.AnswerText.{wordTable, lookedUp, wordFor, numberShown, partShown};
+ghost use Rattle.answer_text.specs.AnswerText.{fieldsIn, answerText};
 
-// The words of the answers.
-fn add_refused(out: &mut [u8], at: usize) -> usize
-    ensures { λ r. ⌜ Added refusedText (now (out .entry)) at (now (out .exit)) r ⌝ }
+// The word of an answer that is no refusal, by its number.
+fn add_told(out: &mut [u8], at: usize, number: u16) -> usize
+    ensures { λ r. ⌜ Added (lookedUp wordTable number) (now (out .entry)) at (now (out .exit)) r ⌝ }
 {
-    text_writers::add_bytes(out, at, b"refused")
-}
-
-fn add_opened(out: &mut [u8], at: usize) -> usize
-    ensures { λ r. ⌜ Added openedText (now (out .entry)) at (now (out .exit)) r ⌝ }
-{
-    text_writers::add_bytes(out, at, b"opened")
-}
-
-fn add_made(out: &mut [u8], at: usize) -> usize
-    ensures { λ r. ⌜ Added madeText (now (out .entry)) at (now (out .exit)) r ⌝ }
-{
-    text_writers::add_bytes(out, at, b"made")
-}
-
-fn add_set(out: &mut [u8], at: usize) -> usize
-    ensures { λ r. ⌜ Added setText (now (out .entry)) at (now (out .exit)) r ⌝ }
-{
-    text_writers::add_bytes(out, at, b"set")
-}
-
-fn add_value(out: &mut [u8], at: usize) -> usize
-    ensures { λ r. ⌜ Added valueText (now (out .entry)) at (now (out .exit)) r ⌝ }
-{
-    text_writers::add_bytes(out, at, b"value")
-}
-
-fn add_blamed(out: &mut [u8], at: usize) -> usize
-    ensures { λ r. ⌜ Added blamedText (now (out .entry)) at (now (out .exit)) r ⌝ }
-{
-    text_writers::add_bytes(out, at, b"blamed")
-}
-
-fn add_waits(out: &mut [u8], at: usize) -> usize
-    ensures { λ r. ⌜ Added waitsText (now (out .entry)) at (now (out .exit)) r ⌝ }
-{
-    text_writers::add_bytes(out, at, b"waits")
-}
-
-fn add_cycle(out: &mut [u8], at: usize) -> usize
-    ensures { λ r. ⌜ Added cycleText (now (out .entry)) at (now (out .exit)) r ⌝ }
-{
-    text_writers::add_bytes(out, at, b"cycle")
-}
-
-fn add_started(out: &mut [u8], at: usize) -> usize
-    ensures { λ r. ⌜ Added startedText (now (out .entry)) at (now (out .exit)) r ⌝ }
-{
-    text_writers::add_bytes(out, at, b"started")
-}
-
-fn add_ended(out: &mut [u8], at: usize) -> usize
-    ensures { λ r. ⌜ Added endedText (now (out .entry)) at (now (out .exit)) r ⌝ }
-{
-    text_writers::add_bytes(out, at, b"ended")
+    if number == 100 {
+        return add_bytes(out, at, b"opened");
+    }
+    if number == 101 {
+        return add_bytes(out, at, b"made");
+    }
+    if number == 102 {
+        return add_bytes(out, at, b"set");
+    }
+    if number == 103 {
+        return add_bytes(out, at, b"value");
+    }
+    if number == 104 {
+        return add_bytes(out, at, b"blamed");
+    }
+    if number == 105 {
+        return add_bytes(out, at, b"waits");
+    }
+    if number == 106 {
+        return add_bytes(out, at, b"cycle");
+    }
+    if number == 107 {
+        return add_bytes(out, at, b"started");
+    }
+    if number == 108 {
+        return add_bytes(out, at, b"ended");
+    }
+    at
 }
 
 // The word of an answer.
@@ -78,36 +51,9 @@ fn add_word(out: &mut [u8], at: usize, refuses: bool, number: u16) -> usize
     ensures { λ r. ⌜ Added (wordFor refuses number) (now (out .entry)) at (now (out .exit)) r ⌝ }
 {
     if refuses {
-        return add_refused(out, at);
+        return add_bytes(out, at, b"refused");
     }
-    if number == 100 {
-        return add_opened(out, at);
-    }
-    if number == 101 {
-        return add_made(out, at);
-    }
-    if number == 102 {
-        return add_set(out, at);
-    }
-    if number == 103 {
-        return add_value(out, at);
-    }
-    if number == 104 {
-        return add_blamed(out, at);
-    }
-    if number == 105 {
-        return add_waits(out, at);
-    }
-    if number == 106 {
-        return add_cycle(out, at);
-    }
-    if number == 107 {
-        return add_started(out, at);
-    }
-    if number == 108 {
-        return add_ended(out, at);
-    }
-    at
+    add_told(out, at, number)
 }
 
 // One number.

@@ -40,8 +40,8 @@ pub fn field(line: &[u8], at: usize) -> &[u8]
 pub fn next_start(line: &[u8], at: usize) -> usize
     ensures { λ r. ⌜ r ≡ nextStart (now (line .entry)) at ⌝ }
 {
-    if line.len() < at {
-        return at;
+    if at <= line.len() {
+        return field_end(line, at) + 1;
     }
-    field_end(line, at) + 1
+    at
 }

@@ -21,8 +21,7 @@ use Rattle.text_keywords.specs.Keywords.{keywordOf}
 use Rattle.text_keywords.specs.declared.Keyword.{Keyword}
 use Rattle.text_keywords.specs.declared.Keyword.the-variants as W
 use Rattle.text_records.specs.Records.{endBefore, numberAt, withSecond, withFirst, pairAt, lastPair, ofPair, ofList}
-use Rattle.text_records.specs.Records.{ofOne}
-use Rattle.text_records.specs.Records.{afterKind, afterWord, recordOf}
+use Rattle.text_records.specs.Records.{ofOne, afterKind, afterWord, recordOf}
 use Rattle.text_records.proofs.RecordLaws.{numberAt-next}
 use Rattle.text_records.specs.declared.Numbered.{Numbered}
 use Rattle.text_records.specs.declared.Numbered.the-variants as S

@@ -1,5 +1,6 @@
--- Numbers in fields, over the definitions of `fields` and `numbers` alone: what is read as a number has no tab, a bad
--- field stays bad at the same place whatever follows its bad byte, and up to that byte it is the start of a number.
+-- Numbers in fields, over the definitions of `text_fields` and `text_numbers` alone: what is read as a number has no
+-- tab, a bad field stays bad at the same place whatever follows its bad byte, and up to that byte it is the start of
+-- a number.
 -- Assumes nothing.
 use Prim.Native.Nat.{ℕ, zero, suc, _+_, _*_, _≤_, _<_}
 use mathlib.Core.List.{List, [], _∷_, _++_, append-nil}
@@ -37,10 +38,10 @@ digitsFrom-whole (b ∷ s) v k n e =
     go true p false q e ih = never (sym (rw (p, q) at e))
     go true p true q e ih = rw (ne-eqb b 9 (digit-no-tab b (ltb-true _ _ p))) (ap suc (ih (rw (p, q) at e)))
 
-pub numberOf-whole : (s : List ℕ) (n : ℕ) → numberIn s ≡ Is n → runToTab s ≡ length s
+pub numberIn-whole : (s : List ℕ) (n : ℕ) → numberIn s ≡ Is n → runToTab s ≡ length s
 unfolding numberIn afterZero runTo
-numberOf-whole [] n e = never (sym e)
-numberOf-whole (b ∷ s) n e = go (eqb b 48) refl s e
+numberIn-whole [] n e = never (sym e)
+numberIn-whole (b ∷ s) n e = go (eqb b 48) refl s e
   where
     go : (x : Bool) → eqb b 48 ≡ x → (s : List ℕ) → numberIn (b ∷ s) ≡ Is n → runToTab (b ∷ s) ≡ suc (length s)
     go true p [] e = rw (ne-eqb b 9 (λ (z : b ≡ 9). omega (arith, eqb-true b 48 p)))
@@ -48,7 +49,7 @@ numberOf-whole (b ∷ s) n e = go (eqb b 48) refl s e
     go false p s e = digitsFrom-whole (b ∷ s) 0 0 n (rw p at e)
 
 pub dec-whole : (n : ℕ) → n ≤ largest → runToTab (dec n) ≡ length (dec n)
-dec-whole n h = numberOf-whole (dec n) n (numberIn-print n h)
+dec-whole n h = numberIn-whole (dec n) n (numberIn-print n h)
 
 -- a number, and a tab or the end: what stands there is told by the list
 pub dec-split : (f x y : List ℕ) (m : ℕ) → runToTab f ≡ length f → runToTab x ≡ 0 → m ≤ largest → runToTab y ≡ 0
@@ -129,11 +130,11 @@ digitsFrom-stable (b ∷ r) v k i x e =
     tab true t i e ih = never (rw t at e)
     tab false t i e ih = rw t (on t (ltb (digitOf b) 10) refl (leb (v * 10 + digitOf b) largest) refl i (rw t at e) ih)
 
-pub numberOf-stable : (r : List ℕ) (j : ℕ) (x : List ℕ) → numberIn (firstField r) ≡ Bad j → j < length r
+pub numberIn-stable : (r : List ℕ) (j : ℕ) (x : List ℕ) → numberIn (firstField r) ≡ Bad j → j < length r
     → numberIn (firstField (take (suc j) r ++ x)) ≡ Bad j
 unfolding numberIn afterZero runTo
-numberOf-stable [] j x e h = absurd (omega arith)
-numberOf-stable (b ∷ r) j x e h = tab (eqb b 9) refl j e
+numberIn-stable [] j x e h = absurd (omega arith)
+numberIn-stable (b ∷ r) j x e h = tab (eqb b 9) refl j e
   where
     zero-at : eqb b 48 ≡ true → (r : List ℕ) (j : ℕ) → afterZero (firstField r) ≡ Bad j
         → afterZero (firstField (take j r ++ x)) ≡ Bad j
@@ -176,11 +177,11 @@ is-start : (f : List ℕ) (n : ℕ) → numberIn f ≡ Is n → Start f
 is-start f n e =
     record { number = n; most = numberIn-printed f n e .0; more = []; text = append-nil f ∙ numberIn-printed f n e .1 }
 
-pub numberOf-start : (f : List ℕ) (j : ℕ) → numberIn f ≡ Bad j → Start (take j f)
+pub numberIn-bad-start : (f : List ℕ) (j : ℕ) → numberIn f ≡ Bad j → Start (take j f)
 unfolding numberIn afterZero
-numberOf-start f zero e = zero-start
-numberOf-start [] (suc j) e = zero-start
-numberOf-start (b ∷ f) (suc j) e = go (eqb b 48) refl f j e
+numberIn-bad-start f zero e = zero-start
+numberIn-bad-start [] (suc j) e = zero-start
+numberIn-bad-start (b ∷ f) (suc j) e = go (eqb b 48) refl f j e
   where
     go : (x : Bool) → eqb b 48 ≡ x → (f : List ℕ) (j : ℕ) → numberIn (b ∷ f) ≡ Bad (suc j) → Start (b ∷ take j f)
     go true p [] j e = never (rw p at e)

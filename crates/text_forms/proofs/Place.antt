@@ -26,7 +26,7 @@ use Rattle.text_forms.specs.Forms.{BadAt}
 use Rattle.text_forms.proofs.Parsed.{Numbers}
 use Rattle.text_fields.proofs.FieldLaws.{firstField, runToTab-most, runToTab-tab, runToTab-afterField, runToTab-none}
 use Rattle.text_fields.proofs.FieldLaws.{firstField-front, nextStart-is}
-use Rattle.text_forms.proofs.NumberFields.{dec-whole, dec-split, numberOf-stable, Start, numberOf-start}
+use Rattle.text_forms.proofs.NumberFields.{dec-whole, dec-split, numberIn-stable, Start, numberIn-bad-start}
 
 -- ---- numbers after tabs
 
@@ -152,10 +152,10 @@ module _ (L : List ℕ → Type 0) (s : List ℕ) (e : ℕ) (ok : ℕ → Bool) 
         → BadAt L s (e + 1 + j)
     number-bad k o j n w = record {
       within = omega (arith, runToTab-most rest, length-drop (e + 1) s);
-      start = begin (numberOf-start (firstField rest) j n);
+      start = begin (numberIn-bad-start (firstField rest) j n);
       stop = λ b x l.
           let p : suc (e + 1 + j) ≡ e + 1 + suc j = omega arith in
-          no (take (suc j) rest ++ x) (numberOf-stable rest j x n (omega (arith, length-drop (e + 1) s)))
+          no (take (suc j) rest ++ x) (numberIn-stable rest j x n (omega (arith, length-drop (e + 1) s)))
           (subst L (ap (λ (i : ℕ). take i s ++ x) p ∙ ap (λ (r : List ℕ). r ++ x) (front (suc j))
           ∙ append-assoc (take e s) (9 ∷ take (suc j) rest) x) l);
       not-one = λ l. no rest n (subst L whole l);

@@ -23,8 +23,7 @@ use Rattle.text_keywords.specs.declared.Keyword.{Keyword}
 use Rattle.text_keywords.specs.declared.Keyword.the-variants as W
 use Rattle.text_keywords.proofs.Theorems.{keywordOf-text}
 use Rattle.text_records.specs.Records.{endBefore, placed, numberAt, withSecond, withFirst, pairAt, lastPair, ofPair}
-use Rattle.text_records.specs.Records.{ofList}
-use Rattle.text_records.specs.Records.{ofOne, afterKind, afterWord, recordOf}
+use Rattle.text_records.specs.Records.{ofList, ofOne, afterKind, afterWord, recordOf}
 use Rattle.text_records.specs.declared.Numbered.the-variants as S
 use Rattle.text_records.specs.declared.NumberPair.the-variants as P
 use Rattle.text_records.specs.declared.LineRecord.{LineRecord}

@@ -1,12 +1,12 @@
 -- The judgement of a line, as it is read. Paper: 01, "Lines", refusal 14, "the line has no such form, is empty, or is
 -- longer than 2,048 bytes", and 02, request 1, "A line that is too long gives column 2,048".
 --
---   keywordIn f           the word of the form f, and
+--   keywordIn f        the word of the form f, and
 --   numbersIn f vs     its numbers; vs are the entries of its list
---   entryCount f          how many entries it says its list has
---   lineForm s           the form of the line s, or `Bad` with the column where it goes bad
+--   entryCount f       how many entries it says its list has
+--   lineForm s         the form of the line s, or `Bad` with the column where it goes bad
 --   entriesOf s        the entries of the line's list
---   IsForm f             the answer f is one of the forms
+--   IsForm f           the answer f is one of the forms
 --   InLine f           the answer f is one of them, or its column is at most the length limit
 --   Judged s o x r     the line s was judged with the words o lent for its list: x is what they hold then, and r the
 --                      answer
@@ -62,7 +62,7 @@ entryCount (F.Bad c) = 0
 
 -- ---- what is answered
 
--- a step whose list starts at e: columns of the list become columns of the line
+-- a step with the rest of the line from e on: columns of the list become columns of the line
 unfoldable pub withList : Kind → ℕ → ℕ → ℕ → Listed → LineForm
 withList k a b e (E.All n) = F.Step k a b n
 withList k a b e (E.Bad j) = F.Bad (e + j)

@@ -19,7 +19,7 @@ pub enum LineForm {
     Bad(u16),
 }
 
-// A step whose list starts at `at`.
+// A step whose numbers end at `at`, with the list behind them.
 fn with_list(line: &[u8], kind: Kind, t: u16, c: u16, at: usize, list: &mut [u16]) -> LineForm
     requires { ⌜ InLine (withList kind t c at (listOf (drop at (now line)))) ⌝ }
     ensures { λ r. ⌜ r ≡ withList kind t c at (listOf (drop at (now (line .entry)))) ⌝ }

@@ -1,8 +1,7 @@
 // The words that start a line.
 use step_kinds::Kind;
 ghost use mathlib.Core.Path.{_≡_};
-ghost use Rattle.text_keywords.specs.Keywords.{keywordOf, larger, longest, keywords};
-ghost use Rattle.text_keywords.specs.Keywords.{common as commonOf};
+ghost use Rattle.text_keywords.specs.Keywords.{keywordOf, larger, longest, keywords, common as commonOf};
 ghost use Rattle.text_keywords.specs.Keywords.{same as sameOf};
 
 // The words: `open`, and that of each kind of step; or none of them, and then how many bytes of the field begin one.

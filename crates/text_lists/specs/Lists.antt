@@ -2,7 +2,7 @@
 -- after the child", and "The five steps", "The list may have no entries". s is that rest: empty, or a tab and a field
 -- for each entry.
 --
---   listEntries s         the entries, up to the first bad one
+--   listEntries s      the entries, up to the first bad one
 --   listOf s           `All n` with how many they are, or `Bad c` with the column, in s, of the first bad byte
 --   Listing s o x r    the list s was read into the lent words o: x is what they hold then, and r the answer
 -- Theorems.antt: with one word lent for two bytes of s nothing is cut.
@@ -40,7 +40,7 @@ unfoldable pub listedFrom : ℕ → ℕ → List ℕ → ℕ → Listed
 listedFrom zero n s a = All n
 listedFrom (suc f) n s a = cond (ltb (length s) a) (All n) (pastEntry (listedFrom f (n + 1) s) (numberAt s a))
 
--- the first entry starts after the tab at the start of s; an entry has at least two bytes, so there are fewer than bytes
+-- the first entry starts after the tab that s begins with; an entry has at least two bytes, so length s bounds them
 unfoldable pub listEntries : List ℕ → List ℕ
 listEntries s = valuesFrom (length s) s 1
 

@@ -13,7 +13,7 @@ use lib.Dec.{ltb, leb, eqb}
 use lib.ListN.{length, length-append}
 use Rattle.text_buffers.specs.Buffers.{Wrote, Added}
 use Rattle.text_buffers.proofs.BufferLaws.{wrote-none, wrote-added}
-use Rattle.text_numbers.specs.declared.Num.the-variants.{Is, Bad}
+use Rattle.text_numbers.specs.declared.Num.the-variants.{Is}
 use Rattle.text_numbers.specs.Numbers.{largest, digitOf, digitsFrom, afterZero, numberIn, decWithin, dec}
 use Rattle.text_numbers.proofs.NumberLaws.{never}
 

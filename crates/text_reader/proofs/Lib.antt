@@ -1,1 +1,3 @@
+pub mod Started
+pub mod Apart
 pub mod Theorems

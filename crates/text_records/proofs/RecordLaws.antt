@@ -3,12 +3,12 @@
 -- Assumes nothing.
 use Prim.Native.Nat.{ℕ, _+_, _≤_, _<_}
 use mathlib.Core.List.{List}
-use mathlib.Core.Path.{_≡_, refl, ap, sym, _∙_}
+use mathlib.Core.Path.{_≡_, refl, ap, sym}
 use native.Mathlib.Omega.{arith}
 use native.Mathlib.Decide.{decLt}
 use borrow.Author.Tests.{lt-ltb, le-ltb}
 use lib.ListN.{length}
-use Rattle.text_fields.specs.Fields.{fieldEnd, fieldAt, nextStart}
+use Rattle.text_fields.specs.Fields.{fieldAt, nextStart}
 use Rattle.text_fields.proofs.FieldLaws.{fieldAt-length, fieldEnd-within, nextStart-is}
 use Rattle.text_numbers.specs.Numbers.{numberIn}
 use Rattle.text_numbers.specs.declared.Num.{Num}

@@ -6,8 +6,8 @@
 --   numberAt s a       the number of the field that starts at a, and where the next field starts
 --   pairAt s a         two numbers, one field after the other
 --   lastPair s p       the same, where the line has to end after the second
---   recordOf s         the record of the line s; for a step with a list up to its numbers, with the place where the rest
---                      of the line starts
+--   recordOf s         the record of the line s; for a step with a list up to its numbers, with the place where the
+--                      rest of the line starts
 -- What a well-formed line is stands in `text_forms`, in the direction of printing; there it is proved that both agree.
 -- Assumes nothing.
 use Prim.Native.Nat.{ℕ, _+_, _-_}

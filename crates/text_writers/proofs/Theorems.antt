@@ -1,5 +1,5 @@
 -- 01, "How much each contract must say": any two outcomes that the contract of a writer allows coincide, the line's
--- other bytes included. Each is the theorem of `buffers` for its text. How many bytes a text takes is
+-- other bytes included. Each is the theorem of `text_buffers` for its text. How many bytes a text takes is
 -- `fieldsText-six` and `fieldsText-four` of WriterLaws.antt.
 -- Assumes nothing.
 use Prim.Native.Nat.{ℕ}

@@ -72,8 +72,8 @@ module _ (P : ℕ → Type 0) where
   every-drop (suc n) no-more = no-more
   every-drop (suc n) (one-more p a) = every-drop n a
 
-  pub every-part : (from n : ℕ) {ws : List ℕ} → Every P ws → Every P (stretchOf ws from n)
-  every-part from n a = every-take n (every-drop from a)
+  pub every-stretch : (from n : ℕ) {ws : List ℕ} → Every P ws → Every P (stretchOf ws from n)
+  every-stretch from n a = every-take n (every-drop from a)
 
   pub every-parted : (xs : List ℕ) {ys : List ℕ} → Every P (xs ++ ys) → Every P xs × Every P ys
   every-parted [] a = (no-more, a)

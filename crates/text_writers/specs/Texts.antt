@@ -1,9 +1,9 @@
 -- The text of fields. Paper: 01, "Lines", "fields parted by a tab", and "Its fields go into the rest of the lent
--- answer line, after the line number and a tab". A number's printed form is `dec` of `numbers`.
+-- answer line, after the line number and a tab". A number's printed form is `dec` of `text_numbers`.
 --
 --   fieldText n        a tab, and n in its printed form
 --   fieldsText ns      one such field for each number of ns, in order
---   stretchOf s from n    the n words of s from the place `from` on, or as many as there are
+--   stretchOf s from n the n words of s from the place `from` on, or as many as there are
 --   Every P ns         each number of ns has the property P
 -- Assumes nothing.
 use Prim.Native.Nat.{ℕ}

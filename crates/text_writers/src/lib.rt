@@ -1,7 +1,7 @@
 // The fields of an answer. Each `put_` writer is lent the rest of the answer line, writes at its front and answers
 // how many bytes it wrote. Each `add_` writer lends such a rest, from the line's current end `at` on, and answers the
 // new end. A text without room is cut at the line's end, so no writer asks leave; with room the whole text is there
-// (`wrote-room`, `added-room` of `buffers`).
+// (`wrote-room`, `added-room` of `text_buffers`).
 ghost use mathlib.Core.Path.{_≡_};
 ghost use Prim.Native.Nat.{_+_, _-_, min};
 ghost use Rattle.text_buffers.specs.Buffers.{Wrote, Added};

@@ -1,3 +1,5 @@
+-- `answer_text::add_fields` meets its contract: the fields of each part follow those before it (`added-added`).
+-- Assumes nothing.
 use Rattle.answer_text.specs.AnswerText.{fieldsIn}
 use Rattle.answer_text.proofs.AnswerLaws.{fieldsText-append, added-added}
 use borrow.Author.Needs.{needs}
@@ -31,9 +33,13 @@ same-length c = search needs
 returns : tie.Need-returns
 unfolding fieldsIn
 returns c =
+    let third = c .before .before in
+    let second = third .before .before .before .before in
+    let first = second .before .before .before .before in
+    let number = first .before .before .before .before in
     rw (fieldsText-append, fieldsText-append, fieldsText-append)
-    (added-added (added-added
-    (added-added (c .before .before .before .before .before .before .before .before .before .before .before .before .before .before .add-refusal .ensures) (c .before .before .before .before .before .before .before .before .before .before .add-part .ensures)) (c .before .before .before .before .before .before .add-part2 .ensures)) (c .before .before .add-part3 .ensures))
+    (added-added (added-added (added-added (number .add-refusal .ensures) (first .add-part .ensures))
+    (second .add-part2 .ensures)) (third .add-part3 .ensures))
 
 pub add-fields-spec : {M : Type 1} → statement M
 add-fields-spec =

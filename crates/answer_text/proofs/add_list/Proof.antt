@@ -1,8 +1,8 @@
 -- `answer_text::add_list` meets its contract: the words of the report follow the count (`added-added`).
 -- Assumes nothing.
 use mathlib.Core.List.{[], _∷_}
-use borrow.Author.Needs.{needs}
 use Rattle.answer_text.proofs.AnswerLaws.{fieldsText-append, added-added}
+use borrow.Author.Needs.{needs}
 use Rattle.answer_text.proofs.add_list.Statement.{statement}
 use Rattle.answer_text.proofs.add_list.Tie as tie
 
@@ -17,10 +17,17 @@ same-length c = search needs
 
 returns : tie.Need-returns
 returns c =
-    rw (fieldsText-append
-    (c .before .before .before .before .before .before .before .before .before .before .args .count ∷ []))
-    (added-added (c .before .before .before .before .before .before .add-field .ensures)
-    (c .before .before .add-part .ensures))
+    let words = c .before .before in
+    let count = words .before .before .before .before in
+    let start = count .before .before .before .before in
+    rw (fieldsText-append (start .args .count ∷ []))
+    (added-added (count .add-field .ensures) (words .add-part .ensures))
 
 pub add-list-spec : {M : Type 1} → statement M
-add-list-spec = tie.close (tie.spec add-field-requires add-part-requires same-length returns)
+add-list-spec =
+    tie.close
+    (tie.spec
+    add-field-requires
+    add-part-requires
+    same-length
+    returns)

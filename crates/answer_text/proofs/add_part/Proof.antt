@@ -1,3 +1,6 @@
+-- `answer_text::add_part` meets its contract: a part that is told shows its value and its words, any other nothing
+-- (`added-none`).
+-- Assumes nothing.
 use Rattle.answer_text.proofs.AnswerLaws.{fieldsText-none, added-none}
 use borrow.Author.Needs.{needs}
 use Rattle.answer_text.proofs.add_part.Statement.{statement}
@@ -13,7 +16,9 @@ same-length : tie.Need-same-length
 same-length c = search needs
 
 returns : tie.Need-returns
-returns c = rw (c .before .before .before .before .before .if1 .taken) (c .before .before .add-list .ensures)
+returns c =
+    let added = c .before .before in
+    rw (added .before .before .before .if1 .taken) (added .add-list .ensures)
 
 returns-2 : tie.Need-returns-2
 returns-2 c = rw (c .if1 .left, fieldsText-none) (added-none _ _)

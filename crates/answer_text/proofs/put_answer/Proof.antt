@@ -1,7 +1,7 @@
 -- `answer_text::put_answer` meets its contract: the five parts of the line follow each other (`answer-wrote`).
 -- Assumes nothing.
-use borrow.Author.Needs.{needs}
 use Rattle.answer_text.proofs.AnswerLaws.{answer-wrote}
+use borrow.Author.Needs.{needs}
 use Rattle.answer_text.proofs.put_answer.Statement.{statement}
 use Rattle.answer_text.proofs.put_answer.Tie as tie
 
@@ -28,11 +28,14 @@ same-length c = search needs
 
 returns : tie.Need-returns
 returns c =
-    answer-wrote _ _ _
-    (c .before .before .before .before .before .before .before .before .before .before .before .before .layout .ensures) (c .before .before .before .before .before .before .before .before .before .before .before .before .before .before .before .before .before .before .before .put-digits .ensures) (c .before .before .before .before .before .before .before .before .before .before .before .before .before .before .before .add-byte .ensures)
-    (c .before .before .before .before .before .before .before .before .before .before .add-word .ensures)
-    (c .before .before .before .before .before .before .add-fields .ensures)
-    (c .before .before .add-byte2 .ensures)
+    let ended = c .before .before in
+    let fields = ended .before .before .before .before in
+    let word = fields .before .before .before .before in
+    let laid = word .before .before in
+    let tab = laid .before .before .before in
+    let number = tab .before .before .before .before in
+    answer-wrote _ _ _ (laid .layout .ensures) (number .put-digits .ensures) (tab .add-byte .ensures)
+    (word .add-word .ensures) (fields .add-fields .ensures) (ended .add-byte2 .ensures)
 
 pub put-answer-spec : {M : Type 1} → statement M
 put-answer-spec =

@@ -3,7 +3,8 @@
 -- Assumes nothing.
 use mathlib.Core.Path.{refl, sym}
 use native.Mathlib.Omega.{arith}
-use Rattle.text_fields.proofs.FieldLaws.{fieldAt-part, fieldAt-past, fieldEnd-bounds, partStart-past, partStart-is}
+use Rattle.text_fields.proofs.FieldLaws.{fieldAt-part, fieldAt-past, fieldEnd-bounds, partStart-past}
+use Rattle.text_fields.proofs.FieldLaws.{partStart-is}
 use borrow.Author.Needs.{needs}
 use Rattle.text_fields.proofs.field.Statement.{statement}
 use Rattle.text_fields.proofs.field.Tie as tie

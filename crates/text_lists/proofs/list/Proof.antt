@@ -1,5 +1,5 @@
--- `text_lists::list` meets its contract. The invariant is `At`: the entries seen are in the lent words, and what is left
--- of the list still gives the answer; each way on is one law of `At`.
+-- `text_lists::list` meets its contract. The invariant is `At`: the entries seen are in the lent words, and what is
+-- left of the list still gives the answer; each way on is one law of `At`.
 -- Assumes nothing.
 use Prim.Native.Nat.{_+_, _-_}
 use mathlib.Core.Path.{_≡_, sym, _∙_}
@@ -79,7 +79,8 @@ returns : tie.Need-returns Inv-loop μ-loop
 returns c =
     let number = c .before .before .before in
     let t = turn number in
-    at-bad _ _ _ _ _ (t .loop-test .taken) _ (t .before .loop .inv) (sym (number .number-at .ensures) ∙ c .before .c .given .1)
+    at-bad _ _ _ _ _ (t .loop-test .taken) _ (t .before .loop .inv)
+    (sym (number .number-at .ensures) ∙ c .before .c .given .1)
 
 same-length-2 : tie.Need-same-length-2 Inv-loop μ-loop
 same-length-2 c = at-size _ _ _ _ _ (c .before .loop .inv)

@@ -1,7 +1,6 @@
 -- `text_records::pair_at` meets its contract: the two numbers are read in the order of `withFirst` and `withSecond`.
 -- Assumes nothing.
-use mathlib.Core.Path.{_≡_, sym, _∙_}
-use Rattle.text_records.specs.declared.Numbered.{Numbered}
+use mathlib.Core.Path.{sym, _∙_}
 use Rattle.text_records.specs.Records.{pairAt, withFirst, withSecond}
 use borrow.Author.Needs.{needs}
 use Rattle.text_records.proofs.pair_at.Statement.{statement}

@@ -20,7 +20,8 @@ by : (c : tie.After-keyword-of) {v : Keyword} → c .keyword-of .result ≡ v
     → recordOf (lent c) ≡ afterWord (lent c) (c .before .next-from .result) v
 by c told =
     let next = c .before in
-    recordOf-by _ _ _ _ _ (next .before .field-from .ensures .bytes) (next .next-from .ensures) (c .keyword-of .ensures) told
+    recordOf-by _ _ _ _ _ (next .before .field-from .ensures .bytes) (next .next-from .ensures)
+    (c .keyword-of .ensures) told
 
 field-from-requires : tie.Need-field-from-requires
 field-from-requires c κs = search needs

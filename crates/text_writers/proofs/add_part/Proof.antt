@@ -23,9 +23,10 @@ put-part-requires c κs = search needs
 
 add-result : tie.Need-add-result
 add-result c =
-    let a = c .before .before .before .before .before .before .before .args in
-    let h = lent-most _ (a .out .now) _ (a .at) _ (c .before .before .put-part .ensures)
-    (c .before .before .before .before .if1 .left) in
+    let wrote = c .before .before in
+    let inside = wrote .before .before in
+    let a = inside .before .before .before .args in
+    let h = lent-most _ (a .out .now) _ (a .at) _ (wrote .put-part .ensures) (inside .if1 .left) in
     search needs
 
 same-length : tie.Need-same-length

@@ -33,11 +33,10 @@ loop-less : tie.Need-loop-less Inv-loop μ-loop
 loop-less c = search needs
 
 loop-again : tie.Need-loop-again Inv-loop μ-loop
-loop-again c = (
-  search needs,
-  bytes-more _ _ (c .before .before .before .before .before .loop-test .taken)
-      (c .before .before .before .before .before .before .loop .inv .1) (c .before .before .add-byte .ensures),
-)
+loop-again c =
+    let added = c .before .before in
+    let turn = added .before .before .before in
+    (search needs, bytes-more _ _ (turn .loop-test .taken) (turn .before .loop .inv .1) (added .add-byte .ensures))
 
 same-length : tie.Need-same-length Inv-loop μ-loop
 same-length c = wrote-length (c .before .loop .inv .1)

@@ -16,8 +16,9 @@ same-length c = search needs
 
 returns : tie.Need-returns
 returns c =
-    wrote-added (wrote-added (wrote-none _) (c .before .before .before .before .before .before .add-byte .ensures))
-    (c .before .before .add-digits .ensures)
+    let digits = c .before .before in
+    let tab = digits .before .before .before .before in
+    wrote-added (wrote-added (wrote-none _) (tab .add-byte .ensures)) (digits .add-digits .ensures)
 
 pub put-number-spec : {M : Type 1} → statement M
 put-number-spec = tie.close (tie.spec add-byte-requires add-digits-requires same-length returns)

@@ -41,11 +41,11 @@ loop-less c = search needs
 
 loop-again : tie.Need-loop-again Inv-loop μ-loop
 loop-again c =
-    let a = rw (c .before .before .before .wide .ensures) at (c .before .before .add-number .ensures) in (
-      search needs,
-      fields-more _ _ (c .before .before .before .before .before .before .loop-test .taken)
-          (c .before .before .before .before .before .before .before .loop .inv .1) a,
-    )
+    let added = c .before .before in
+    let wide = added .before in
+    let turn = wide .before .before .before in
+    let a = rw (wide .wide .ensures) at (added .add-number .ensures) in
+    (search needs, fields-more _ _ (turn .loop-test .taken) (turn .before .loop .inv .1) a)
 
 same-length : tie.Need-same-length Inv-loop μ-loop
 same-length c = wrote-length (c .before .loop .inv .1)

@@ -35,9 +35,11 @@ same-length c = search needs
 
 returns-2 : tie.Need-returns-2
 returns-2 c =
-    let a = c .before .before .before .before .before .before .before .before .before .args in
-    rw (stretchOf-slice (a .words .now) (a .from) (a .count) _
-    (c .before .before .before .before .before .part-end .ensures)) at (c .before .before .put-numbers .ensures)
+    let wrote = c .before .before in
+    let cut = wrote .before .before .before in
+    let a = cut .before .before .before .before .args in
+    rw (stretchOf-slice (a .words .now) (a .from) (a .count) _ (cut .part-end .ensures)) at
+    (wrote .put-numbers .ensures)
 
 pub put-part-spec : {M : Type 1} → statement M
 put-part-spec =
