@@ -1,5 +1,6 @@
--- Laws of specs/Batches.antt: what a call has that is not refused; a record's step on good tables; and what the loop of a batch holds: the records still to take, from the tables as
--- they are, make what all of them make of the tables lent. Assumes nothing.
+-- Laws of specs/Batches.antt: what a call has that is not refused; a record's step on good tables; and what the loop
+-- of a batch holds: the records still to take, from the tables as they are, make what all of them make of the tables
+-- lent. Assumes nothing.
 use Prim.Native.Nat.{ℕ, zero, suc, _+_, _*_, _-_, _≤_, _<_}
 use mathlib.Core.Path.{_≡_, refl, sym, ap, subst, _∙_}
 use mathlib.Core.Logic.{_≢_}
@@ -31,7 +32,8 @@ use Rattle.answer_words.proofs.AnswerWordLaws.{answerWords-length}
 use Rattle.batch_record.specs.declared.Record.{Record}
 use Rattle.batch_record.specs.Records.{stepOf, partRows, rawRecord, stepRecord, Turns}
 use Rattle.batch_record.proofs.RecordLaws.{record-room}
-use Rattle.batch.specs.Batches.{noRecord, recordAt, oneByOne, lastTables, allAnswers, allWords, hasRoom, callRows, done, refused, called, batched, Batches}
+use Rattle.batch.specs.Batches.{noRecord, recordAt, oneByOne, lastTables, allAnswers, allWords, hasRoom}
+use Rattle.batch.specs.Batches.{callRows, done, refused, called, batched, Batches}
 use Rattle.batch.specs.declared.Called.the-variants.{Refused, Done}
 
 -- ---- a call that is not refused
@@ -48,7 +50,13 @@ hasRoom-true F T P n m k e =
     let (a, d) = and-split _ (leb (4 * n) k) e in
     let (b, c) = and-split _ (leb (n * roomFor T P) m) a in
     let (x, y) = and-split (sizesInBounds F T P) (leb n mostRecords) b in
-    record { sizes = sizesInBounds-true F T P x; few = leb-true n mostRecords y; report = leb-true (n * roomFor T P) m c; answers = leb-true (4 * n) k d }
+    record {
+      sizes = sizesInBounds-true F T P x;
+      few = leb-true n mostRecords y;
+      report = leb-true (n * roomFor T P) m
+          c;
+      answers = leb-true (4 * n) k d;
+    }
 
 -- the test, in its order
 module _ (F : Form) (T P n m k : ℕ) where
@@ -60,14 +68,16 @@ module _ (F : Form) (T P n m k : ℕ) where
   unfolding hasRoom
   room-too-many h = rw (lt-leb n mostRecords h, and-false)
 
-  pub room-rest : sizesInBounds F T P ≡ true → n ≤ mostRecords → (leb (n * roomFor T P) m && leb (4 * n) k) ≡ hasRoom F T P n m k
+  pub room-rest : sizesInBounds F T P ≡ true → n ≤ mostRecords
+      → (leb (n * roomFor T P) m && leb (4 * n) k) ≡ hasRoom F T P n m k
   unfolding hasRoom
   room-rest e h = rw (e, le-leb n mostRecords h)
 
 module _ (F : Form) (s : Tables) (n m k : ℕ) (e : first (callRows F s n m k) ≡ 0) where
   callRows-none : (hasRoom F (length (s .tasks)) (length (s .promises)) n m k ≡ true) × (soundTest (F .base) s ≡ true)
   callRows-none =
-      let (a, b, z) = tests-past (hasRoom F (length (s .tasks)) (length (s .promises)) n m k) (soundTest (F .base) s) _ (eqb-false 1 0 refl) (eqb-false 2 0 refl) e in
+      let (a, b, z) = tests-past (hasRoom F (length (s .tasks)) (length (s .promises)) n m k) (soundTest (F .base) s)
+      _ (eqb-false 1 0 refl) (eqb-false 2 0 refl) e in
       (a, b)
 
   pub call-roomy : Roomy F (length (s .tasks)) (length (s .promises)) n m k
@@ -90,7 +100,8 @@ module _ (F : Form) (list : List ℕ) (s : Tables) (rs : List Record) (m k : ℕ
   abbrev pub why : ℕ
   why = first (callRows F s (length rs) m k)
 
-  pub taken-all : why ≡ 0 → batched F list s rs m k ≡ done s (oneByOne F (roomFor (length (s .tasks)) (length (s .promises))) list s rs)
+  pub taken-all : why ≡ 0 → batched F list s rs m k ≡ done s
+      (oneByOne F (roomFor (length (s .tasks)) (length (s .promises))) list s rs)
   unfolding called
   taken-all e = rw (eq-eqb why 0 e)
 
@@ -108,7 +119,8 @@ module _ (F : Form) (apart : Apart F) (n : ℕ) (list : List ℕ) (s : Tables) (
   record-by : (Q : Tables → Type 0) → Q s → Q (step F n s (stepOf list r) .after) → Q (rawRecord F list s r .after)
   record-by Q before after =
       guarded-is _ (first (partRows list r)) s (raw F s (stepOf list r)) Q before
-      (λ e. subst (λ (o : Outcome). Q (o .after)) (guarded-none _ (first (tableRows F n s)) s (raw F s (stepOf list r)) (good-passes F apart n s g)) after)
+      (λ e. subst (λ (o : Outcome). Q (o .after))
+      (guarded-none _ (first (tableRows F n s)) s (raw F s (stepOf list r)) (good-passes F apart n s g)) after)
 
   pub record-good : Good F n (rawRecord F list s r .after)
   record-good = record-by (Good F n) g (good-step F apart n s (stepOf list r) g)
@@ -118,7 +130,8 @@ module _ (F : Form) (apart : Apart F) (n : ℕ) (list : List ℕ) (s : Tables) (
 
 -- ---- lengths
 
-pub oneByOne-length : (F : Form) (n : ℕ) (list : List ℕ) (s : Tables) (rs : List Record) → length (oneByOne F n list s rs) ≡ length rs
+pub oneByOne-length : (F : Form) (n : ℕ) (list : List ℕ) (s : Tables) (rs : List Record)
+    → length (oneByOne F n list s rs) ≡ length rs
 unfolding oneByOne
 oneByOne-length F n list s [] = refl
 oneByOne-length F n list s (r ∷ rs) = ap suc (oneByOne-length F n list _ rs)
@@ -132,11 +145,13 @@ allAnswers-length (o ∷ os) = rw length-append (omega (arith, answerWords-lengt
 
 -- one record more, and no more
 module _ (F : Form) (n : ℕ) (list : List ℕ) (s : Tables) (rs : List Record) (i : ℕ) where
-  one-more : i < length rs → oneByOne F n list s (drop i rs) ≡ stepRecord F n list s (recordAt rs i) ∷ oneByOne F n list (stepRecord F n list s (recordAt rs i) .after) (drop (i + 1) rs)
+  one-more : i < length rs → oneByOne F n list s (drop i rs) ≡ stepRecord F n list s (recordAt rs i) ∷ oneByOne F n
+      list (stepRecord F n list s (recordAt rs i) .after) (drop (i + 1) rs)
   unfolding oneByOne
   one-more h =
       let x = stepRecord F n list s (recordAt rs i) in
-      ap (λ (l : List Record). oneByOne F n list s l) (drop-cons rs i noRecord h) ∙ ap (λ (k : ℕ). x ∷ oneByOne F n list (x .after) (drop k rs)) (sym (add-one i))
+      ap (λ (l : List Record). oneByOne F n list s l) (drop-cons rs i noRecord h)
+      ∙ ap (λ (k : ℕ). x ∷ oneByOne F n list (x .after) (drop k rs)) (sym (add-one i))
 
   no-more : length rs ≤ i → oneByOne F n list s (drop i rs) ≡ []
   unfolding oneByOne
@@ -198,8 +213,10 @@ module _ (F : Form) (apart : Apart F) (list : List ℕ) (rs : List Record) (s₀
       → (inBounds F (length rep - at) s ≡ true) × (at ≤ length rep) × (4 * i + 4 ≤ length ans)
   going-asks {i} {at} {s} {rep} {ans} g h =
       let b = inBounds-true F own s (g .good .bounds) in
-      let fits : at + own ≤ length rep = omega (arith, g .room, g .lengths .0, one-less (length rs - i) own (omega arith)) in (
-        inBounds-of F (length rep - at) s (record { some = b .some; tasks = b .tasks; promises = b .promises; room = omega (arith, b .room) }),
+      let fits : at + own ≤ length rep = omega
+      (arith, g .room, g .lengths .0, one-less (length rs - i) own (omega arith)) in (
+        inBounds-of F (length rep - at) s (record
+            { some = b .some; tasks = b .tasks; promises = b .promises; room = omega (arith, b .room) }),
         omega arith,
         omega (arith, g .answered, g .lengths .1),
       )
@@ -213,13 +230,21 @@ module _ (F : Form) (apart : Apart F) (list : List ℕ) (rs : List Record) (s₀
     left = rest (i + 1) (o .after)
 
     its-own : rest i s ≡ o ∷ left
-    its-own = subst (λ (x : Outcome). rest i s ≡ x ∷ rest (i + 1) (x .after)) (record-raw F apart own list s (recordAt rs i) (g .good)) (one-more F own list s rs i h)
+    its-own = subst (λ (x : Outcome). rest i s ≡ x ∷ rest (i + 1) (x .after))
+        (record-raw F apart own list s (recordAt rs i) (g .good)) (one-more F own list s rs i h)
 
     took-room : at + length (o .words) + (length rs - (i + 1)) * own ≤ length rep₀
     took-room =
         let b = inBounds-true F own s (g .good .bounds) in
         let k : (length rs - i - 1) * own ≡ (length rs - (i + 1)) * own = ap (λ (a : ℕ). a * own) (omega arith) in
-        omega (arith, g .room, one-less (length rs - i) own (omega arith), k, record-room F list s (recordAt rs i), b .room)
+        omega (
+          arith,
+          g .room,
+          one-less (length rs - i) own (omega arith),
+          k,
+          record-room F list s (recordAt rs i),
+          b .room,
+        )
 
     took-tables : lastTables (o .after) left ≡ lastTables s₀ all
     unfolding lastTables
@@ -227,20 +252,31 @@ module _ (F : Form) (apart : Apart F) (list : List ℕ) (rs : List Record) (s₀
 
     took-counted : at + length (o .words) + length (allWords left) ≡ length (allWords all)
     unfolding allWords
-    took-counted = omega (arith, g .counted, ap (λ (os : List Outcome). length (allWords os)) its-own, length-append (o .words) (allWords left))
+    took-counted = omega (
+      arith,
+      g .counted,
+      ap (λ (os : List Outcome). length (allWords os)) its-own,
+      length-append
+          (o .words) (allWords left),
+    )
 
     took-words : sets (sets rep at (o .words)) (at + length (o .words)) (allWords left) ≡ sets rep₀ 0 (allWords all)
     unfolding allWords
-    took-words = sym (sets-append rep at (o .words) (allWords left)) ∙ sym (ap (λ (os : List Outcome). sets rep at (allWords os)) its-own) ∙ g .words
+    took-words = sym (sets-append rep at (o .words) (allWords left))
+        ∙ sym (ap (λ (os : List Outcome). sets rep at (allWords os)) its-own) ∙ g .words
 
-    took-answers : sets (sets ans (4 * i) (answerWords (o .answer))) (4 * (i + 1)) (allAnswers left) ≡ sets ans₀ 0 (allAnswers all)
+    took-answers : sets (sets ans (4 * i) (answerWords (o .answer))) (4 * (i + 1)) (allAnswers left) ≡ sets ans₀ 0
+        (allAnswers all)
     unfolding allAnswers
     took-answers =
-        let k : 4 * (i + 1) ≡ 4 * i + length (answerWords (o .answer)) = omega (arith, answerWords-length (o .answer)) in
+        let k : 4 * (i + 1) ≡ 4 * i + length (answerWords (o .answer)) = omega
+        (arith, answerWords-length (o .answer)) in
         ap (λ (a : ℕ). sets (sets ans (4 * i) (answerWords (o .answer))) a (allAnswers left)) k
-        ∙ sym (sets-append ans (4 * i) (answerWords (o .answer)) (allAnswers left)) ∙ sym (ap (λ (os : List Outcome). sets ans (4 * i) (allAnswers os)) its-own) ∙ g .answers
+        ∙ sym (sets-append ans (4 * i) (answerWords (o .answer)) (allAnswers left))
+        ∙ sym (ap (λ (os : List Outcome). sets ans (4 * i) (allAnswers os)) its-own) ∙ g .answers
 
-    took : Going (i + 1) (at + length (o .words)) (o .after) (sets rep at (o .words)) (sets ans (4 * i) (answerWords (o .answer)))
+    took : Going (i + 1) (at + length (o .words)) (o .after) (sets rep at (o .words))
+        (sets ans (4 * i) (answerWords (o .answer)))
     took =
         let l = record-lengths F apart own list s (recordAt rs i) (g .good) in
         record {
@@ -248,7 +284,11 @@ module _ (F : Form) (apart : Apart F) (list : List ℕ) (rs : List Record) (s₀
           within = omega arith;
           good = record-good F apart own list s (recordAt rs i) (g .good);
           sizes = as-long-too l (g .sizes);
-          lengths = (length-sets rep at (o .words) ∙ g .lengths .0, length-sets ans (4 * i) (answerWords (o .answer)) ∙ g .lengths .1);
+          lengths = (
+            length-sets rep at (o .words) ∙ g .lengths .0,
+            length-sets ans (4 * i) (answerWords (o .answer))
+                ∙ g .lengths .1,
+          );
           room = took-room;
           answered = g .answered;
           same = took-tables;
@@ -257,7 +297,8 @@ module _ (F : Form) (apart : Apart F) (list : List ℕ) (rs : List Record) (s₀
           answers = took-answers;
         }
 
-    pub going-turn : (r : Record) {next : ℕ} {s′ : Tables} {rep′ ans′ : List ℕ} → r ≡ recordAt rs i → Turns (rawRecord F list s r) at i rep ans next s′ rep′ ans′ → Going (i + 1) next s′ rep′ ans′
+    pub going-turn : (r : Record) {next : ℕ} {s′ : Tables} {rep′ ans′ : List ℕ} → r ≡ recordAt rs i
+        → Turns (rawRecord F list s r) at i rep ans next s′ rep′ ans′ → Going (i + 1) next s′ rep′ ans′
     going-turn r {next} {s′} {rep′} {ans′} e t =
         let u = subst (λ (q : Record). Turns (rawRecord F list s q) at i rep ans next s′ rep′ ans′) e t in
         rw (u .next-at, u .after, u .report, u .answers) took
@@ -270,17 +311,22 @@ module _ (F : Form) (apart : Apart F) (list : List ℕ) (rs : List Record) (s₀
       rw (refused-all F list s₀ rs (length rep₀) (length ans₀) (λ z. h (e ∙ z)), ← e)
       (record { answer = refl; after = refl; report = sym (over-none rep₀); answers = sym (over-none ans₀) })
 
-  pub going-end : {i at : ℕ} {s : Tables} {rep ans : List ℕ} → first (callRows F s₀ (length rs) (length rep₀) (length ans₀)) ≡ 0 → Going i at s rep ans → length rs ≤ i
+  pub going-end : {i at : ℕ} {s : Tables} {rep ans : List ℕ}
+      → first (callRows F s₀ (length rs) (length rep₀) (length ans₀)) ≡ 0 → Going i at s rep ans → length rs ≤ i
       → Batches (batched F list s₀ rs (length rep₀) (length ans₀)) rep₀ ans₀ (Done at) s rep ans
   unfolding lastTables allWords allAnswers
   going-end {i} {at} {s} {rep} {ans} e g h =
       let z : rest i s ≡ [] = no-more F own list s rs i h in
       let last : s ≡ lastTables s₀ all = sym (ap (lastTables s) z) ∙ g .same in
-      let count : at ≡ length (allWords all) = omega (arith, g .counted, ap (λ (os : List Outcome). length (allWords os)) z) in
-      let answers-fit : length (allAnswers all) ≤ length ans₀ = omega (arith, allAnswers-length all, oneByOne-length F own list s₀ rs, g .answered) in
+      let count : at ≡ length (allWords all) = omega
+      (arith, g .counted, ap (λ (os : List Outcome). length (allWords os)) z) in
+      let answers-fit : length (allAnswers all) ≤ length ans₀ = omega
+      (arith, allAnswers-length all, oneByOne-length F own list s₀ rs, g .answered) in
       rw (taken-all F list s₀ rs (length rep₀) (length ans₀) e) (record {
         answer = ap Done count;
         after = last;
-        report = sym (ap (λ (os : List Outcome). sets rep at (allWords os)) z) ∙ g .words ∙ sym (over-sets (allWords all) rep₀ (omega (arith, g .room, count)));
-        answers = sym (ap (λ (os : List Outcome). sets ans (4 * i) (allAnswers os)) z) ∙ g .answers ∙ sym (over-sets (allAnswers all) ans₀ answers-fit);
+        report = sym (ap (λ (os : List Outcome). sets rep at (allWords os)) z) ∙ g .words
+            ∙ sym (over-sets (allWords all) rep₀ (omega (arith, g .room, count)));
+        answers = sym (ap (λ (os : List Outcome). sets ans (4 * i) (allAnswers os)) z) ∙ g .answers
+            ∙ sym (over-sets (allAnswers all) ans₀ answers-fit);
       })

@@ -1,5 +1,5 @@
--- What is promised of a batch. F is any form whose owned and blamed words do not meet, list the lent list, s any tables, rs any records, m the report's length and k that of the
--- answers. Assumes nothing.
+-- What is promised of a batch. F is any form whose owned and blamed words do not meet, list the lent list, s any
+-- tables, rs any records, m the report's length and k that of the answers. Assumes nothing.
 use Prim.Native.Nat.{ℕ, zero, suc, _≤_}
 use mathlib.Core.Path.{_≡_, refl, sym, ap, subst, _∙_}
 use mathlib.Core.List.{List, [], _∷_}
@@ -19,11 +19,13 @@ use Rattle.rules.proofs.RefusalLaws.{Numbered, row, no-row}
 use Rattle.rules.proofs.Promises.{demand-3-of}
 use Rattle.batch_record.specs.declared.Record.{Record}
 use Rattle.batch_record.specs.Records.{rawRecord, stepRecord}
-use Rattle.batch.specs.Batches.{oneByOne, lastTables, Taken, none-left, next, callRows, CallOutcome, done, refused, batched, Batches}
+use Rattle.batch.specs.Batches.{oneByOne, lastTables, Taken, none-left, next, callRows, CallOutcome, done}
+use Rattle.batch.specs.Batches.{refused, batched, Batches}
 use Rattle.batch.specs.Reached.{Reached, from-fresh, by-step, by-call}
 use Rattle.batch.specs.declared.Called.{Called}
 use Rattle.batch.specs.declared.Called.the-variants.{Refused, Done}
-use Rattle.batch.proofs.BatchLaws.{why, taken-all, refused-all, call-good, record-raw, record-good, record-lengths}
+use Rattle.batch.proofs.BatchLaws.{why, taken-all, refused-all, call-good, record-raw, record-good}
+use Rattle.batch.proofs.BatchLaws.{record-lengths}
 
 -- ---- the call
 
@@ -31,20 +33,26 @@ call-numbered : (F : Form) (s : Tables) (n m k : ℕ) → Numbered (callRows F s
 call-numbered F s n m k = row (eqb-false 1 0 refl) (row (eqb-false 2 0 refl) no-row)
 
 module _ (F : Form) (list : List ℕ) (s : Tables) (rs : List Record) (m k : ℕ) where
-  -- refused by q exactly when it is the number of the first row that applies: "T or P out of bounds, more than 256 records or too little room is 1 for the call, with nothing
-  -- written; damaged tables are 2 for the call"
-  pub call-refused-by-the-first : (q : ℕ) → batched F list s rs m k .answer ≡ Refused q → FirstGiven q (callRows F s (length rs) m k)
+  -- refused by q exactly when it is the number of the first row that applies: "T or P out of bounds, more than 256
+  -- records or too little room is 1 for the call, with nothing written; damaged tables are 2 for the call"
+  pub call-refused-by-the-first : (q : ℕ) → batched F list s rs m k .answer ≡ Refused q
+      → FirstGiven q (callRows F s (length rs) m k)
   call-refused-by-the-first q e = go (ℕ-discrete (why F list s rs m k) 0)
     where
       go : Dec (why F list s rs m k ≡ 0) → FirstGiven q (callRows F s (length rs) m k)
-      go (yes z) = let h : Done _ ≡ Refused q = sym (ap (λ (o : CallOutcome). o .answer) (taken-all F list s rs m k z)) ∙ e in clash cc
+      go (yes z) = let h : Done _ ≡ Refused q = sym
+          (ap (λ (o : CallOutcome). o .answer) (taken-all F list s rs m k z)) ∙ e in clash cc
       go (no h) =
-          let a : Refused (why F list s rs m k) ≡ Refused q = sym (ap (λ (o : CallOutcome). o .answer) (refused-all F list s rs m k h)) ∙ e in
+          let a : Refused (why F list s rs m k) ≡ Refused q = sym
+          (ap (λ (o : CallOutcome). o .answer) (refused-all F list s rs m k h)) ∙ e in
           let b : why F list s rs m k ≡ q = cc in
           first-given (callRows F s (length rs) m k) q (λ (z : q ≡ 0). h (b ∙ z)) b
 
-  pub the-first-refuses-the-call : (q : ℕ) → FirstGiven q (callRows F s (length rs) m k) → batched F list s rs m k ≡ refused q s
-  the-first-refuses-the-call q g = refused-all F list s rs m k (λ (z : why F list s rs m k ≡ 0). given-number (call-numbered F s (length rs) m k) g (sym (given-first g) ∙ z)) ∙ ap (λ (r : ℕ). refused r s) (given-first g)
+  pub the-first-refuses-the-call : (q : ℕ) → FirstGiven q (callRows F s (length rs) m k)
+      → batched F list s rs m k ≡ refused q s
+  the-first-refuses-the-call q g = refused-all F list s rs m k
+      (λ (z : why F list s rs m k ≡ 0). given-number (call-numbered F s (length rs) m k) g (sym (given-first g) ∙ z))
+      ∙ ap (λ (r : ℕ). refused r s) (given-first g)
 
 -- ---- "Tables, answers and words must equal those of the same steps taken one by one, each with a report of its own."
 
@@ -54,11 +62,13 @@ module _ (F : Form) (apart : Apart F) (list : List ℕ) where
   good-more own n s h g =
       let b = inBounds-true F own s (g .bounds) in
       record {
-        bounds = inBounds-of F n s (record { some = b .some; tasks = b .tasks; promises = b .promises; room = omega (arith, b .room) });
+        bounds = inBounds-of F n s (record
+            { some = b .some; tasks = b .tasks; promises = b .promises; room = omega (arith, b .room) });
         sound = g .sound;
       }
 
-  taken-one-by-one : (own : ℕ) (s : Tables) (rs : List Record) (os : List Outcome) → own ≡ roomFor (length (s .tasks)) (length (s .promises)) → Good F own s → Taken F list s rs os
+  taken-one-by-one : (own : ℕ) (s : Tables) (rs : List Record) (os : List Outcome)
+      → own ≡ roomFor (length (s .tasks)) (length (s .promises)) → Good F own s → Taken F list s rs os
       → os ≡ oneByOne F own list s rs
   unfolding oneByOne
   taken-one-by-one own s [] [] e g none-left = refl
@@ -66,16 +76,19 @@ module _ (F : Form) (apart : Apart F) (list : List ℕ) where
       let x = record-raw F apart n list s r (good-more own n s (omega arith) g) in
       let y = record-raw F apart own list s r g in
       let l = record-lengths F apart own list s r g in
-      let z = taken-one-by-one own (rawRecord F list s r .after) rs os (omega (arith, l .tasks, l .promises)) (record-good F apart own list s r g)
+      let z = taken-one-by-one own (rawRecord F list s r .after) rs os (omega (arith, l .tasks, l .promises))
+      (record-good F apart own list s r g)
       (subst (λ (a : Outcome). Taken F list (a .after) rs os) x t) in
       rw (x, y) (ap (λ (l : List Outcome). rawRecord F list s r ∷ l) z)
 
-  pub the-same-one-by-one : (s : Tables) (rs : List Record) (m k : ℕ) (os : List Outcome) → NoneGiven (callRows F s (length rs) m k) → Taken F list s rs os
+  pub the-same-one-by-one : (s : Tables) (rs : List Record) (m k : ℕ) (os : List Outcome)
+      → NoneGiven (callRows F s (length rs) m k) → Taken F list s rs os
       → batched F list s rs m k ≡ done s os
   the-same-one-by-one s rs m k os none t =
       let e = none-first none in
       let own = roomFor (length (s .tasks)) (length (s .promises)) in
-      taken-all F list s rs m k e ∙ ap (done s) (sym (taken-one-by-one own s rs os refl (call-good F s (length rs) m k e apart) t))
+      taken-all F list s rs m k e ∙ ap (done s)
+      (sym (taken-one-by-one own s rs os refl (call-good F s (length rs) m k e apart) t))
 
   -- steps can be taken so from any tables
   pub taken-exist : (s : Tables) (rs : List Record) → (os : List Outcome) × Taken F list s rs os
@@ -87,28 +100,36 @@ module _ (F : Form) (apart : Apart F) (list : List ℕ) where
 
   -- ---- "The soundness test runs once a call": each step finds good tables, so none is refused by 1 or 2
 
-  pub each-finds-good-tables : (n : ℕ) (s : Tables) → Good F n s → (rs : List Record) (i : ℕ) → Good F n (lastTables s (oneByOne F n list s (take i rs)))
+  pub each-finds-good-tables : (n : ℕ) (s : Tables) → Good F n s → (rs : List Record) (i : ℕ)
+      → Good F n (lastTables s (oneByOne F n list s (take i rs)))
   unfolding oneByOne lastTables
   each-finds-good-tables n s g rs zero = g
   each-finds-good-tables n s g [] (suc i) = g
   each-finds-good-tables n s g (r ∷ rs) (suc i) =
-      each-finds-good-tables n (stepRecord F n list s r .after) (subst (λ (o : Outcome). Good F n (o .after)) (sym (record-raw F apart n list s r g)) (record-good F apart n list s r g)) rs i
+      each-finds-good-tables n (stepRecord F n list s r .after)
+      (subst (λ (o : Outcome). Good F n (o .after)) (sym (record-raw F apart n list s r g))
+      (record-good F apart n list s r g)) rs i
 
   -- a call leaves tables good for any report for which they were
-  good-after : (own n : ℕ) (s : Tables) (rs : List Record) → Good F own s → Good F n s → Good F n (lastTables s (oneByOne F own list s rs))
+  good-after : (own n : ℕ) (s : Tables) (rs : List Record) → Good F own s → Good F n s
+      → Good F n (lastTables s (oneByOne F own list s rs))
   unfolding oneByOne lastTables
   good-after own n s [] h g = g
   good-after own n s (r ∷ rs) h g =
-      subst (λ (o : Outcome). Good F n (lastTables (o .after) (oneByOne F own list (o .after) rs))) (sym (record-raw F apart own list s r h))
-      (good-after own n (rawRecord F list s r .after) rs (record-good F apart own list s r h) (record-good F apart n list s r g))
+      subst (λ (o : Outcome). Good F n (lastTables (o .after) (oneByOne F own list (o .after) rs)))
+      (sym (record-raw F apart own list s r h))
+      (good-after own n (rawRecord F list s r .after) rs (record-good F apart own list s r h)
+      (record-good F apart n list s r g))
 
-  pub a-call-leaves-good-tables : (n : ℕ) (s : Tables) (rs : List Record) (m k : ℕ) → Good F n s → Good F n (batched F list s rs m k .after)
+  pub a-call-leaves-good-tables : (n : ℕ) (s : Tables) (rs : List Record) (m k : ℕ) → Good F n s
+      → Good F n (batched F list s rs m k .after)
   a-call-leaves-good-tables n s rs m k g = go (ℕ-discrete (why F list s rs m k) 0)
     where
       go : Dec (why F list s rs m k ≡ 0) → Good F n (batched F list s rs m k .after)
       go (yes e) =
           let own = roomFor (length (s .tasks)) (length (s .promises)) in
-          subst (λ (o : CallOutcome). Good F n (o .after)) (sym (taken-all F list s rs m k e)) (good-after own n s rs (call-good F s (length rs) m k e apart) g)
+          subst (λ (o : CallOutcome). Good F n (o .after)) (sym (taken-all F list s rs m k e))
+          (good-after own n s rs (call-good F s (length rs) m k e apart) g)
       go (no h) = subst (λ (o : CallOutcome). Good F n (o .after)) (sym (refused-all F list s rs m k h)) g
 
 -- ---- demand 3 after steps and calls
@@ -124,6 +145,13 @@ module _ (F : Form) (apart : Apart F) (n : ℕ) where
 
 -- ---- any two outcomes that the contract of a call allows coincide
 
-pub one-call : {o : CallOutcome} {rs ws : List ℕ} {c c′ : Called} {s s′ : Tables} {rep rep′ ans ans′ : List ℕ} → Batches o rs ws c s rep ans → Batches o rs ws c′ s′ rep′ ans′
+pub one-call : {o : CallOutcome} {rs ws : List ℕ} {c c′ : Called} {s s′ : Tables} {rep rep′ ans ans′ : List ℕ}
+    → Batches o rs ws c s rep ans → Batches o rs ws c′ s′ rep′ ans′
     → (c ≡ c′) × (s ≡ s′) × (rep ≡ rep′) × (ans ≡ ans′)
-one-call g h = (g .answer ∙ sym (h .answer), g .after ∙ sym (h .after), g .report ∙ sym (h .report), g .answers ∙ sym (h .answers))
+one-call g h = (
+  g .answer ∙ sym (h .answer),
+  g .after ∙ sym (h .after),
+  g .report ∙ sym (h .report),
+  g .answers
+      ∙ sym (h .answers),
+)

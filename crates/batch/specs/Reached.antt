@@ -13,4 +13,5 @@ use Rattle.batch.specs.Batches.{batched}
 pub data Reached (F : Form) (n : ℕ) : Tables → Type 0 where
   from-fresh : (T P : ℕ) → 1 ≤ T → T ≤ F .mostTasks → P ≤ F .mostPromises → roomFor T P ≤ n → Reached F n (fresh T P)
   by-step : {s : Tables} (x : Step) → Reached F n s → Reached F n (step F n s x .after)
-  by-call : {s : Tables} (list : List ℕ) (rs : List Record) (m k : ℕ) → Reached F n s → Reached F n (batched F list s rs m k .after)
+  by-call : {s : Tables} (list : List ℕ) (rs : List Record) (m k : ℕ) → Reached F n s
+      → Reached F n (batched F list s rs m k .after)

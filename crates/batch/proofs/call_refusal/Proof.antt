@@ -11,11 +11,21 @@ is-sound-requires c κs = search needs
 
 returns : tie.Need-returns
 unfolding first
-returns c = rw (← c .before .before .before .has-room .ensures, c .before .before .if1 .taken, ← c .before .is-sound .ensures, c .if2 .taken)
+returns c = rw (
+  ← c .before .before .before .has-room .ensures,
+  c .before .before .if1 .taken,
+  ← c .before .is-sound .ensures,
+  c .if2 .taken,
+)
 
 returns-2 : tie.Need-returns-2
 unfolding first
-returns-2 c = rw (← c .before .before .before .has-room .ensures, c .before .before .if1 .taken, ← c .before .is-sound .ensures, c .if2 .left)
+returns-2 c = rw (
+  ← c .before .before .before .has-room .ensures,
+  c .before .before .if1 .taken,
+  ← c .before .is-sound .ensures,
+  c .if2 .left,
+)
 
 returns-3 : tie.Need-returns-3
 unfolding first
