@@ -1,5 +1,6 @@
--- Laws of specs/Batches.antt: what a call has that is not refused; a record's step on good tables; and what the loop of a batch holds: the records still to take, from the tables as
--- they are, make what all of them make of the tables lent. Assumes nothing.
+-- Laws of specs/Batches.antt: what a call has that is not refused; a record's step on good tables; and what the loop
+-- of a batch holds: the records still to take, from the tables as they are, make what all of them make of the tables
+-- lent. Assumes nothing.
 use Prim.Native.Nat.{ℕ, zero, suc, _+_, _*_, _-_, _≤_, _<_}
 use mathlib.Core.Path.{_≡_, refl, sym, ap, subst, _∙_}
 use mathlib.Core.Logic.{_≢_}
@@ -32,7 +33,8 @@ use Rattle.answer_words.proofs.AnswerWordLaws.{answerWords-length}
 use Rattle.batch_record.specs.declared.Record.{Record}
 use Rattle.batch_record.specs.Records.{stepOf, partRows, rawRecord, stepRecord, Turns}
 use Rattle.batch_record.proofs.RecordLaws.{record-room}
-use Rattle.batch.specs.Batches.{noRecord, recordAt, oneByOne, lastTables, allAnswers, allWords, hasRoom, callRows, done, refused, called, batched, Batches}
+use Rattle.batch.specs.Batches.{noRecord, recordAt, oneByOne, lastTables, allAnswers, allWords, hasRoom}
+use Rattle.batch.specs.Batches.{callRows, done, refused, called, batched, Batches}
 use Rattle.batch.specs.declared.Called.the-variants.{Refused, Done}
 
 -- ---- a call that is not refused
@@ -49,7 +51,13 @@ hasRoom-true F T P n m k e =
     let (a, d) = and-split _ (leb (4 * n) k) e in
     let (b, c) = and-split _ (leb (n * roomFor T P) m) a in
     let (x, y) = and-split (sizesInBounds F T P) (leb n mostRecords) b in
-    record { sizes = sizesInBounds-true F T P x; few = leb-true n mostRecords y; report = leb-true (n * roomFor T P) m c; answers = leb-true (4 * n) k d }
+    record {
+      sizes = sizesInBounds-true F T P x;
+      few = leb-true n mostRecords y;
+      report = leb-true (n * roomFor T P) m
+          c;
+      answers = leb-true (4 * n) k d;
+    }
 
 -- the test, in its order
 module _ (F : Form) (T P n m k : ℕ) where
@@ -61,14 +69,16 @@ module _ (F : Form) (T P n m k : ℕ) where
   unfolding hasRoom
   room-too-many h = rw (lt-leb n mostRecords h, and-false)
 
-  pub room-rest : sizesInBounds F T P ≡ true → n ≤ mostRecords → (leb (n * roomFor T P) m && leb (4 * n) k) ≡ hasRoom F T P n m k
+  pub room-rest : sizesInBounds F T P ≡ true → n ≤ mostRecords
+      → (leb (n * roomFor T P) m && leb (4 * n) k) ≡ hasRoom F T P n m k
   unfolding hasRoom
   room-rest e h = rw (e, le-leb n mostRecords h)
 
 module _ (F : Form) (s : Tables) (n m k : ℕ) (e : first (callRows F s n m k) ≡ 0) where
   callRows-none : (hasRoom F (length (s .tasks)) (length (s .promises)) n m k ≡ true) × (soundTest (F .base) s ≡ true)
   callRows-none =
-      let (a, b, z) = tests-past (hasRoom F (length (s .tasks)) (length (s .promises)) n m k) (soundTest (F .base) s) _ (eqb-false 1 0 refl) (eqb-false 2 0 refl) e in
+      let (a, b, z) = tests-past (hasRoom F (length (s .tasks)) (length (s .promises)) n m k) (soundTest (F .base) s)
+      _ (eqb-false 1 0 refl) (eqb-false 2 0 refl) e in
       (a, b)
 
   pub call-roomy : Roomy F (length (s .tasks)) (length (s .promises)) n m k
@@ -89,7 +99,8 @@ module _ (F : Form) (list : List ℕ) (s : Tables) (rs : List Record) (m k : ℕ
   abbrev pub why : ℕ
   why = first (callRows F s (length rs) m k)
 
-  pub taken-all : why ≡ 0 → batched F list s rs m k ≡ done s (oneByOne F (roomFor (length (s .tasks)) (length (s .promises))) list s rs)
+  pub taken-all : why ≡ 0 → batched F list s rs m k ≡ done s
+      (oneByOne F (roomFor (length (s .tasks)) (length (s .promises))) list s rs)
   unfolding called
   taken-all e = rw (eq-eqb why 0 e)
 
@@ -106,7 +117,8 @@ module _ (F : Form) (apart : Apart F) (list : List ℕ) (s : Tables) (r : Record
       guarded-none _ (first (tableRows F n s)) s (rawRecord F list s r) (good-passes F apart n s g room)
 
   -- whatever holds of the tables before, and after each step of them
-  record-by : (Q : Tables → Type 0) → Q s → Q (step F (roomOf s) s (stepOf list r) .after) → Q (rawRecord F list s r .after)
+  record-by : (Q : Tables → Type 0) → Q s → Q (step F (roomOf s) s (stepOf list r) .after)
+      → Q (rawRecord F list s r .after)
   record-by Q before after =
       let passed = good-passes F apart (roomOf s) s g (omega arith) in
       let same = guarded-none byNumber (first (tableRows F (roomOf s) s)) s (raw F s (stepOf list r)) passed in
@@ -117,7 +129,8 @@ module _ (F : Form) (apart : Apart F) (list : List ℕ) (s : Tables) (r : Record
   record-good = record-by (Good F) g (good-step F apart (roomOf s) s (stepOf list r) g)
 
   pub record-lengths : AsLong (rawRecord F list s r .after) s
-  record-lengths = record-by (λ (x : Tables). AsLong x s) (as-long s) (step-lengths F apart (roomOf s) s (stepOf list r))
+  record-lengths =
+      record-by (λ (x : Tables). AsLong x s) (as-long s) (step-lengths F apart (roomOf s) s (stepOf list r))
 
   -- whatever the report
   pub record-step-good : (n : ℕ) → Good F (stepRecord F n list s r .after)
@@ -125,7 +138,8 @@ module _ (F : Form) (apart : Apart F) (list : List ℕ) (s : Tables) (r : Record
 
 -- ---- lengths
 
-pub oneByOne-length : (F : Form) (n : ℕ) (list : List ℕ) (s : Tables) (rs : List Record) → length (oneByOne F n list s rs) ≡ length rs
+pub oneByOne-length : (F : Form) (n : ℕ) (list : List ℕ) (s : Tables) (rs : List Record)
+    → length (oneByOne F n list s rs) ≡ length rs
 unfolding oneByOne
 oneByOne-length F n list s [] = refl
 oneByOne-length F n list s (r ∷ rs) = ap suc (oneByOne-length F n list _ rs)
@@ -139,11 +153,13 @@ allAnswers-length (o ∷ os) = rw length-append (omega (arith, answerWords-lengt
 
 -- one record more, and no more
 module _ (F : Form) (n : ℕ) (list : List ℕ) (s : Tables) (rs : List Record) (i : ℕ) where
-  one-more : i < length rs → oneByOne F n list s (drop i rs) ≡ stepRecord F n list s (recordAt rs i) ∷ oneByOne F n list (stepRecord F n list s (recordAt rs i) .after) (drop (i + 1) rs)
+  one-more : i < length rs → oneByOne F n list s (drop i rs) ≡ stepRecord F n list s (recordAt rs i) ∷ oneByOne F n
+      list (stepRecord F n list s (recordAt rs i) .after) (drop (i + 1) rs)
   unfolding oneByOne
   one-more h =
       let x = stepRecord F n list s (recordAt rs i) in
-      ap (λ (l : List Record). oneByOne F n list s l) (drop-cons rs i noRecord h) ∙ ap (λ (k : ℕ). x ∷ oneByOne F n list (x .after) (drop k rs)) (sym (add-one i))
+      ap (λ (l : List Record). oneByOne F n list s l) (drop-cons rs i noRecord h)
+      ∙ ap (λ (k : ℕ). x ∷ oneByOne F n list (x .after) (drop k rs)) (sym (add-one i))
 
   no-more : length rs ≤ i → oneByOne F n list s (drop i rs) ≡ []
   unfolding oneByOne
@@ -240,20 +256,31 @@ module _ (F : Form) (apart : Apart F) (list : List ℕ) (rs : List Record) (s₀
 
     took-counted : at + length (o .words) + length (allWords left) ≡ length (allWords all)
     unfolding allWords
-    took-counted = omega (arith, g .counted, ap (λ (os : List Outcome). length (allWords os)) its-own, length-append (o .words) (allWords left))
+    took-counted = omega (
+      arith,
+      g .counted,
+      ap (λ (os : List Outcome). length (allWords os)) its-own,
+      length-append
+          (o .words) (allWords left),
+    )
 
     took-words : sets (sets rep at (o .words)) (at + length (o .words)) (allWords left) ≡ sets rep₀ 0 (allWords all)
     unfolding allWords
-    took-words = sym (sets-append rep at (o .words) (allWords left)) ∙ sym (ap (λ (os : List Outcome). sets rep at (allWords os)) its-own) ∙ g .words
+    took-words = sym (sets-append rep at (o .words) (allWords left))
+        ∙ sym (ap (λ (os : List Outcome). sets rep at (allWords os)) its-own) ∙ g .words
 
-    took-answers : sets (sets ans (4 * i) (answerWords (o .answer))) (4 * (i + 1)) (allAnswers left) ≡ sets ans₀ 0 (allAnswers all)
+    took-answers : sets (sets ans (4 * i) (answerWords (o .answer))) (4 * (i + 1)) (allAnswers left) ≡ sets ans₀ 0
+        (allAnswers all)
     unfolding allAnswers
     took-answers =
-        let k : 4 * (i + 1) ≡ 4 * i + length (answerWords (o .answer)) = omega (arith, answerWords-length (o .answer)) in
+        let k : 4 * (i + 1) ≡ 4 * i + length (answerWords (o .answer)) = omega
+        (arith, answerWords-length (o .answer)) in
         ap (λ (a : ℕ). sets (sets ans (4 * i) (answerWords (o .answer))) a (allAnswers left)) k
-        ∙ sym (sets-append ans (4 * i) (answerWords (o .answer)) (allAnswers left)) ∙ sym (ap (λ (os : List Outcome). sets ans (4 * i) (allAnswers os)) its-own) ∙ g .answers
+        ∙ sym (sets-append ans (4 * i) (answerWords (o .answer)) (allAnswers left))
+        ∙ sym (ap (λ (os : List Outcome). sets ans (4 * i) (allAnswers os)) its-own) ∙ g .answers
 
-    took : Going (i + 1) (at + length (o .words)) (o .after) (sets rep at (o .words)) (sets ans (4 * i) (answerWords (o .answer)))
+    took : Going (i + 1) (at + length (o .words)) (o .after) (sets rep at (o .words))
+        (sets ans (4 * i) (answerWords (o .answer)))
     took =
         let l = record-lengths F apart list s (recordAt rs i) (g .good) in
         record {
@@ -261,7 +288,11 @@ module _ (F : Form) (apart : Apart F) (list : List ℕ) (rs : List Record) (s₀
           within = omega arith;
           good = record-good F apart list s (recordAt rs i) (g .good);
           sizes = as-long-too l (g .sizes);
-          lengths = (length-sets rep at (o .words) ∙ g .lengths .0, length-sets ans (4 * i) (answerWords (o .answer)) ∙ g .lengths .1);
+          lengths = (
+            length-sets rep at (o .words) ∙ g .lengths .0,
+            length-sets ans (4 * i) (answerWords (o .answer))
+                ∙ g .lengths .1,
+          );
           room = took-room;
           answered = g .answered;
           same = took-tables;
@@ -270,7 +301,8 @@ module _ (F : Form) (apart : Apart F) (list : List ℕ) (rs : List Record) (s₀
           answers = took-answers;
         }
 
-    pub going-turn : (r : Record) {next : ℕ} {s′ : Tables} {rep′ ans′ : List ℕ} → r ≡ recordAt rs i → Turns (rawRecord F list s r) at i rep ans next s′ rep′ ans′ → Going (i + 1) next s′ rep′ ans′
+    pub going-turn : (r : Record) {next : ℕ} {s′ : Tables} {rep′ ans′ : List ℕ} → r ≡ recordAt rs i
+        → Turns (rawRecord F list s r) at i rep ans next s′ rep′ ans′ → Going (i + 1) next s′ rep′ ans′
     going-turn r {next} {s′} {rep′} {ans′} e t =
         let u = subst (λ (q : Record). Turns (rawRecord F list s q) at i rep ans next s′ rep′ ans′) e t in
         rw (u .next-at, u .after, u .report, u .answers) took
@@ -283,17 +315,22 @@ module _ (F : Form) (apart : Apart F) (list : List ℕ) (rs : List Record) (s₀
       rw (refused-all F list s₀ rs (length rep₀) (length ans₀) (λ z. h (e ∙ z)), ← e)
       (record { answer = refl; after = refl; report = sym (over-none rep₀); answers = sym (over-none ans₀) })
 
-  pub going-end : {i at : ℕ} {s : Tables} {rep ans : List ℕ} → first (callRows F s₀ (length rs) (length rep₀) (length ans₀)) ≡ 0 → Going i at s rep ans → length rs ≤ i
+  pub going-end : {i at : ℕ} {s : Tables} {rep ans : List ℕ}
+      → first (callRows F s₀ (length rs) (length rep₀) (length ans₀)) ≡ 0 → Going i at s rep ans → length rs ≤ i
       → Batches (batched F list s₀ rs (length rep₀) (length ans₀)) rep₀ ans₀ (Done at) s rep ans
   unfolding lastTables allWords allAnswers
   going-end {i} {at} {s} {rep} {ans} e g h =
       let z : rest i s ≡ [] = no-more F own list s rs i h in
       let last : s ≡ lastTables s₀ all = sym (ap (lastTables s) z) ∙ g .same in
-      let count : at ≡ length (allWords all) = omega (arith, g .counted, ap (λ (os : List Outcome). length (allWords os)) z) in
-      let answers-fit : length (allAnswers all) ≤ length ans₀ = omega (arith, allAnswers-length all, oneByOne-length F own list s₀ rs, g .answered) in
+      let count : at ≡ length (allWords all) = omega
+      (arith, g .counted, ap (λ (os : List Outcome). length (allWords os)) z) in
+      let answers-fit : length (allAnswers all) ≤ length ans₀ = omega
+      (arith, allAnswers-length all, oneByOne-length F own list s₀ rs, g .answered) in
       rw (taken-all F list s₀ rs (length rep₀) (length ans₀) e) (record {
         answer = ap Done count;
         after = last;
-        report = sym (ap (λ (os : List Outcome). sets rep at (allWords os)) z) ∙ g .words ∙ sym (over-sets (allWords all) rep₀ (omega (arith, g .room, count)));
-        answers = sym (ap (λ (os : List Outcome). sets ans (4 * i) (allAnswers os)) z) ∙ g .answers ∙ sym (over-sets (allAnswers all) ans₀ answers-fit);
+        report = sym (ap (λ (os : List Outcome). sets rep at (allWords os)) z) ∙ g .words
+            ∙ sym (over-sets (allWords all) rep₀ (omega (arith, g .room, count)));
+        answers = sym (ap (λ (os : List Outcome). sets ans (4 * i) (allAnswers os)) z) ∙ g .answers
+            ∙ sym (over-sets (allAnswers all) ans₀ answers-fit);
       })

@@ -1,5 +1,5 @@
--- What is promised of a batch. F is any form whose owned and blamed words do not meet, list the lent list, s any tables, rs any records, m the report's length and k that of the
--- answers. Assumes nothing.
+-- What is promised of a batch. F is any form whose owned and blamed words do not meet, list the lent list, s any
+-- tables, rs any records, m the report's length and k that of the answers. Assumes nothing.
 use Prim.Native.Nat.{ℕ, zero, suc, _≤_}
 use mathlib.Core.Path.{_≡_, refl, sym, ap, subst, _∙_}
 use mathlib.Core.List.{List, [], _∷_}
@@ -19,11 +19,13 @@ use Rattle.rules.proofs.RefusalLaws.{Numbered, row, no-row}
 use Rattle.rules.proofs.Promises.{demand-3-of}
 use Rattle.batch_record.specs.declared.Record.{Record}
 use Rattle.batch_record.specs.Records.{rawRecord, stepRecord}
-use Rattle.batch.specs.Batches.{oneByOne, lastTables, Taken, none-left, next, callRows, CallOutcome, done, refused, batched, Batches}
+use Rattle.batch.specs.Batches.{oneByOne, lastTables, Taken, none-left, next, callRows, CallOutcome, done}
+use Rattle.batch.specs.Batches.{refused, batched, Batches}
 use Rattle.batch.specs.Reached.{Reached, from-fresh, by-step, by-call}
 use Rattle.batch.specs.declared.Called.{Called}
 use Rattle.batch.specs.declared.Called.the-variants.{Refused, Done}
-use Rattle.batch.proofs.BatchLaws.{why, taken-all, refused-all, call-good, record-raw, record-good, record-lengths, record-step-good}
+use Rattle.batch.proofs.BatchLaws.{why, taken-all, refused-all, call-good}
+use Rattle.batch.proofs.BatchLaws.{record-raw, record-good, record-lengths, record-step-good}
 
 -- ---- the call
 
@@ -31,20 +33,26 @@ call-numbered : (F : Form) (s : Tables) (n m k : ℕ) → Numbered (callRows F s
 call-numbered F s n m k = row (eqb-false 1 0 refl) (row (eqb-false 2 0 refl) no-row)
 
 module _ (F : Form) (list : List ℕ) (s : Tables) (rs : List Record) (m k : ℕ) where
-  -- refused by q exactly when it is the number of the first row that applies: "T or P out of bounds, more than 256 records or too little room is 1 for the call, with nothing
-  -- written; damaged tables are 2 for the call"
-  pub call-refused-by-the-first : (q : ℕ) → batched F list s rs m k .answer ≡ Refused q → FirstGiven q (callRows F s (length rs) m k)
+  -- refused by q exactly when it is the number of the first row that applies: "T or P out of bounds, more than 256
+  -- records or too little room is 1 for the call, with nothing written; damaged tables are 2 for the call"
+  pub call-refused-by-the-first : (q : ℕ) → batched F list s rs m k .answer ≡ Refused q
+      → FirstGiven q (callRows F s (length rs) m k)
   call-refused-by-the-first q e = go (ℕ-discrete (why F list s rs m k) 0)
     where
       go : Dec (why F list s rs m k ≡ 0) → FirstGiven q (callRows F s (length rs) m k)
-      go (yes z) = let h : Done _ ≡ Refused q = sym (ap (λ (o : CallOutcome). o .answer) (taken-all F list s rs m k z)) ∙ e in clash cc
+      go (yes z) = let h : Done _ ≡ Refused q = sym
+          (ap (λ (o : CallOutcome). o .answer) (taken-all F list s rs m k z)) ∙ e in clash cc
       go (no h) =
-          let a : Refused (why F list s rs m k) ≡ Refused q = sym (ap (λ (o : CallOutcome). o .answer) (refused-all F list s rs m k h)) ∙ e in
+          let a : Refused (why F list s rs m k) ≡ Refused q = sym
+          (ap (λ (o : CallOutcome). o .answer) (refused-all F list s rs m k h)) ∙ e in
           let b : why F list s rs m k ≡ q = cc in
           first-given (callRows F s (length rs) m k) q (λ (z : q ≡ 0). h (b ∙ z)) b
 
-  pub the-first-refuses-the-call : (q : ℕ) → FirstGiven q (callRows F s (length rs) m k) → batched F list s rs m k ≡ refused q s
-  the-first-refuses-the-call q g = refused-all F list s rs m k (λ (z : why F list s rs m k ≡ 0). given-number (call-numbered F s (length rs) m k) g (sym (given-first g) ∙ z)) ∙ ap (λ (r : ℕ). refused r s) (given-first g)
+  pub the-first-refuses-the-call : (q : ℕ) → FirstGiven q (callRows F s (length rs) m k)
+      → batched F list s rs m k ≡ refused q s
+  the-first-refuses-the-call q g = refused-all F list s rs m k
+      (λ (z : why F list s rs m k ≡ 0). given-number (call-numbered F s (length rs) m k) g (sym (given-first g) ∙ z))
+      ∙ ap (λ (r : ℕ). refused r s) (given-first g)
 
 -- ---- "Tables, answers and words must equal those of the same steps taken one by one, each with a report of its own."
 
@@ -112,6 +120,13 @@ module _ (F : Form) (apart : Apart F) where
 
 -- ---- any two outcomes that the contract of a call allows coincide
 
-pub one-call : {o : CallOutcome} {rs ws : List ℕ} {c c′ : Called} {s s′ : Tables} {rep rep′ ans ans′ : List ℕ} → Batches o rs ws c s rep ans → Batches o rs ws c′ s′ rep′ ans′
+pub one-call : {o : CallOutcome} {rs ws : List ℕ} {c c′ : Called} {s s′ : Tables} {rep rep′ ans ans′ : List ℕ}
+    → Batches o rs ws c s rep ans → Batches o rs ws c′ s′ rep′ ans′
     → (c ≡ c′) × (s ≡ s′) × (rep ≡ rep′) × (ans ≡ ans′)
-one-call g h = (g .answer ∙ sym (h .answer), g .after ∙ sym (h .after), g .report ∙ sym (h .report), g .answers ∙ sym (h .answers))
+one-call g h = (
+  g .answer ∙ sym (h .answer),
+  g .after ∙ sym (h .after),
+  g .report ∙ sym (h .report),
+  g .answers
+      ∙ sym (h .answers),
+)

@@ -1,4 +1,5 @@
--- The worked batch of specs/WorkedBatch.antt, by computation: with just enough room, and refused with a word less. Assumes nothing.
+-- The worked batch of specs/WorkedBatch.antt, by computation: with just enough room, and refused with a word less.
+-- Assumes nothing.
 use mathlib.Core.Path.{_≡_, refl}
 use mathlib.Core.List.{[]}
 use Rattle.words.specs.Words.{small, sizesInBounds}
@@ -16,13 +17,18 @@ use Rattle.batch.specs.WorkedBatch.{workedList, workedRecords, workedOut
 use Rattle.batch.specs.declared.Called.the-variants.{Refused}
 
 pub worked-batch : batched small workedList (fresh 3 4) workedRecords 150 60 ≡ workedOutcome
-unfolding sizesInBounds sizesFit inBounds allBelow is places changed hop comes taskPasses promisePasses soundTest laid first differs entryRefusal firstBad given awaits walk pairs followed got guarded started answerWords stepBy shapeOf takesList oneByOne lastTables allAnswers allWords hasRoom called refusedWith refusedAtWith
+unfolding sizesInBounds sizesFit inBounds allBelow is places changed hop comes taskPasses promisePasses soundTest
+    laid first differs entryRefusal firstBad given awaits walk pairs followed got guarded started
+    answerWords stepBy shapeOf takesList oneByOne lastTables allAnswers allWords hasRoom called refusedWith
+    refusedAtWith
 worked-batch = refl
 
-pub one-word-less : batched small workedList (fresh 3 4) workedRecords 149 60 ≡ record { answer = Refused 1; after = fresh 3 4; words = []; answers = [] }
+pub one-word-less : batched small workedList (fresh 3 4) workedRecords 149 60 ≡
+    record { answer = Refused 1; after = fresh 3 4; words = []; answers = [] }
 unfolding sizesInBounds first hasRoom called
 one-word-less = refl
 
-pub one-answer-less : batched small workedList (fresh 3 4) workedRecords 150 59 ≡ record { answer = Refused 1; after = fresh 3 4; words = []; answers = [] }
+pub one-answer-less : batched small workedList (fresh 3 4) workedRecords 150 59 ≡
+    record { answer = Refused 1; after = fresh 3 4; words = []; answers = [] }
 unfolding sizesInBounds first hasRoom called
 one-answer-less = refl

@@ -1,14 +1,18 @@
 -- A whole scan's steps in one call. Paper: 02, 2/13.
 --
 --   recordAt rs i            the i-th record
---   oneByOne F n list s rs   what the steps of the records answer, do and report, taken one by one, each with a report of n words of its own
+--   oneByOne F n list s rs   what the steps of the records answer, do and report, taken one by one, each with a report
+--                            of its own of n words
 --   lastTables s os          the tables after them
 --   allAnswers os            their answers, four words each
 --   allWords os              their report words, one after another
---   Taken F list s rs os     os are what the steps answer, do and report, one by one, each with a report of its own of any length that has room
---   hasRoom F T P n m k      n records are not too many, and have room in a report of m words and in k words for their answers
+--   Taken F list s rs os     os are what the steps answer, do and report, one by one, each with a report of its own of
+--                            any length that has room
+--   hasRoom F T P n m k      n records are not too many, and have room in a report of m words and in k words for their
+--                            answers
 --   callRows F s n m k       refusals 1 and 2 of the call
---   CallOutcome              the answer to the call, the tables after it, and what is written over the front of the report and of the answers
+--   CallOutcome              the answer to the call, the tables after it, and what is written over the front of the
+--                            report and of the answers
 --   done s os, refused r s   all steps taken; refused by r
 --   batched F list s rs m k  what a call with a report of m words and k words for the answers makes
 --   Batches ..               what a call leaves of the tables, the report and the answers
@@ -61,13 +65,14 @@ allWords (o ∷ os) = o .words ++ allWords os
 
 pub data Taken (F : Form) (list : List ℕ) : Tables → List Record → List Outcome → Type 0 where
   none-left : {s : Tables} → Taken F list s [] []
-  next : {s : Tables} {r : Record} {rs : List Record} {os : List Outcome} (n : ℕ) → roomFor (length (s .tasks)) (length (s .promises)) ≤ n
+  next : {s : Tables} {r : Record} {rs : List Record} {os : List Outcome} (n : ℕ)
+      → roomFor (length (s .tasks)) (length (s .promises)) ≤ n
       → Taken F list (stepRecord F n list s r .after) rs os → Taken F list s (r ∷ rs) (stepRecord F n list s r ∷ os)
 
 -- ---- the call
 
--- "T or P out of bounds, more than 256 records or too little room is 1 for the call": "The report must have room for P + 2T words per record, and the answers for every record."
--- An answer record is four words.
+-- "T or P out of bounds, more than 256 records or too little room is 1 for the call": "The report must have room for
+-- P + 2T words per record, and the answers for every record." An answer record is four words.
 unfoldable pub hasRoom : Form → ℕ → ℕ → ℕ → ℕ → ℕ → Bool
 hasRoom F T P n m k = sizesInBounds F T P && leb n mostRecords && leb (n * roomFor T P) m && leb (4 * n) k
 
@@ -85,7 +90,13 @@ pub record CallOutcome : Type 0 where
 
 -- all steps taken
 abbrev pub done : Tables → List Outcome → CallOutcome
-done s os = record { answer = Done (length (allWords os)); after = lastTables s os; words = allWords os; answers = allAnswers os }
+done s os = record {
+  answer = Done (length (allWords os));
+  after = lastTables s os;
+  words = allWords os;
+  answers =
+      allAnswers os;
+}
 
 -- refused, "with nothing written"
 abbrev pub refused : ℕ → Tables → CallOutcome
@@ -96,7 +107,8 @@ called r s os = cond (eqb r 0) (done s os) (refused r s)
 
 -- "Tables, answers and words must equal those of the same steps taken one by one, each with a report of its own."
 abbrev pub batched : Form → List ℕ → Tables → List Record → ℕ → ℕ → CallOutcome
-batched F list s rs m k = called (first (callRows F s (length rs) m k)) s (oneByOne F (roomFor (length (s .tasks)) (length (s .promises))) list s rs)
+batched F list s rs m k = called (first (callRows F s (length rs) m k)) s
+    (oneByOne F (roomFor (length (s .tasks)) (length (s .promises))) list s rs)
 
 -- "words or answers past the last one given stay as they were"
 pub record Batches (o : CallOutcome) (rs ws : List ℕ) (c : Called) (s′ : Tables) (rs′ ws′ : List ℕ) : Type 0 where

@@ -1,5 +1,5 @@
--- The run of 01, "Either side of each edge", its open line left out, as one call, with two records between that are refused by 16 and two that are refused by 17.
--- proofs/Worked.antt shows that the definitions give it.
+-- The run of 01, "Either side of each edge", its open line left out, as one call, with two records between that are
+-- refused by 16 and two that are refused by 17. proofs/Worked.antt shows that the definitions give it.
 -- Assumes nothing.
 use Prim.Native.Nat.{ℕ}
 use mathlib.Core.List.{List, [], _∷_}

@@ -1,4 +1,5 @@
-// A whole scan's steps in one call. The tables are tested once for the call; that a step leaves sound tables sound is a theorem.
+// A whole scan's steps in one call. The tables are tested once for the call; that a step leaves sound tables sound is
+// a theorem.
 use batch_record::Record;
 use batch_record::turn;
 use table_sound::tables_pass;
@@ -27,7 +28,8 @@ fn record_at(records: &[Record], i: usize) -> Record
     records[i]
 }
 
-// Whether the sizes are within their bounds, the records are not too many, and the report and the answers have room for all of them.
+// Whether the sizes are within their bounds, the records are not too many, and the report and the answers have room
+// for all of them.
 fn has_room(tasks: usize, promises: usize, records: usize, report: usize, answers: usize) -> bool
     ensures { λ r. ⌜ r ≡ hasRoom small tasks promises records report answers ⌝ }
 {
@@ -50,7 +52,8 @@ fn call_refusal(
     report: usize,
     answers: usize,
 ) -> u16
-    ensures { λ r. ⌜ r ≡ first (callRows small (tablesOf (now (tasks .entry)) (now (promises .entry))) records report answers) ⌝ }
+    ensures { λ r. ⌜ r ≡ first (callRows small (tablesOf (now (tasks .entry)) (now (promises .entry))) records report
+        answers) ⌝ }
 {
     if has_room(tasks.len(), promises.len(), records, report, answers) {
         if tables_pass(tasks, promises) {
@@ -70,7 +73,10 @@ pub fn batch(
     list: &[u16],
     answers: &mut [u16],
 ) -> Called
-    ensures { λ r. ⌜ Batches (batched small (now (list .entry)) (tablesOf (now (tasks .entry)) (now (promises .entry))) (now (records .entry)) (length (now (report .entry))) (length (now (answers .entry)))) (now (report .entry)) (now (answers .entry)) r (tablesOf (now (tasks .exit)) (now (promises .exit))) (now (report .exit)) (now (answers .exit)) ⌝ }
+    ensures { λ r. ⌜ Batches (batched small (now (list .entry))
+        (tablesOf (now (tasks .entry)) (now (promises .entry))) (now (records .entry)) (length (now (report .entry)))
+        (length (now (answers .entry)))) (now (report .entry)) (now (answers .entry)) r
+        (tablesOf (now (tasks .exit)) (now (promises .exit))) (now (report .exit)) (now (answers .exit)) ⌝ }
 {
     let refusal = call_refusal(tasks, promises, records.len(), report.len(), answers.len());
     if refusal != 0 {

@@ -1,4 +1,5 @@
--- Laws of specs/Flat.antt: a record taken from the front of the words, their number, and the ways out of a call. Assumes nothing.
+-- Laws of specs/Flat.antt: a record taken from the front of the words, their number, and the ways out of a call.
+-- Assumes nothing.
 use Prim.Native.Nat.{ℕ, suc, _+_, _*_, _-_, _/_, _≤_, _<_}
 use mathlib.Core.Path.{_≡_, refl, sym, ap, _∙_}
 use mathlib.Core.List.{List, [], _∷_}
@@ -23,7 +24,8 @@ use Rattle.batch_words.specs.Flat.{recordIn, recordsOf, isFlat, calledNu
 -- ---- five words of a list
 
 five : (ws : List ℕ) (i : ℕ) → i + 5 ≤ length ws
-    → drop i ws ≡ getD ws i 0 ∷ getD ws (i + 1) 0 ∷ getD ws (i + 2) 0 ∷ getD ws (i + 3) 0 ∷ getD ws (i + 4) 0 ∷ drop (i + 5) ws
+    → drop i ws ≡ getD ws i 0 ∷ getD ws (i + 1) 0 ∷ getD ws (i + 2) 0 ∷ getD ws (i + 3) 0 ∷ getD ws (i + 4) 0 ∷ drop
+    (i + 5) ws
 five ws i h =
     let e₁ : i + 1 ≡ suc i = omega arith in
     let e₂ : i + 2 ≡ suc (suc i) = omega arith in
@@ -45,7 +47,8 @@ five ws i h =
 
 -- ---- whether the words are records
 
-flat-step : (ws : List ℕ) (i : ℕ) → i + 5 ≤ length ws → isFlat (drop i ws) ≡ (leb (getD ws i 0) 4 && isFlat (drop (i + 5) ws))
+flat-step : (ws : List ℕ) (i : ℕ) → i + 5 ≤ length ws
+    → isFlat (drop i ws) ≡ (leb (getD ws i 0) 4 && isFlat (drop (i + 5) ws))
 unfolding isFlat
 flat-step ws i h = rw (five ws i h)
 
@@ -68,7 +71,8 @@ flat-few ws i h l = few (drop i ws) (rw (length-drop i ws) (omega arith)) (rw (l
 pub flat-no : (ws : List ℕ) (i : ℕ) → i + 5 ≤ length ws → 4 < getD ws i 0 → isFlat (drop i ws) ≡ false
 flat-no ws i h k = rw (flat-step ws i h, lt-leb (getD ws i 0) 4 k)
 
-pub flat-yes : (ws : List ℕ) (i : ℕ) → i + 5 ≤ length ws → getD ws i 0 ≤ 4 → isFlat (drop (i + 5) ws) ≡ isFlat (drop i ws)
+pub flat-yes : (ws : List ℕ) (i : ℕ) → i + 5 ≤ length ws → getD ws i 0 ≤ 4
+    → isFlat (drop (i + 5) ws) ≡ isFlat (drop i ws)
 flat-yes ws i h k = rw (flat-step ws i h, le-leb (getD ws i 0) 4 k)
 
 -- records take whole fives
@@ -83,7 +87,8 @@ flat-fives (k ∷ t ∷ o ∷ a ∷ n ∷ ws) e = omega (arith, flat-fives ws (a
 
 -- ---- the records
 
-pub records-step : (ws : List ℕ) (i : ℕ) → i + 5 ≤ length ws → recordsOf (drop i ws) ≡ recordIn ws i ∷ recordsOf (drop (i + 5) ws)
+pub records-step : (ws : List ℕ) (i : ℕ) → i + 5 ≤ length ws
+    → recordsOf (drop i ws) ≡ recordIn ws i ∷ recordsOf (drop (i + 5) ws)
 unfolding recordsOf recordIn
 records-step ws i h = rw (five ws i h)
 
@@ -101,12 +106,15 @@ records-count (k ∷ t ∷ o ∷ a ∷ []) n e = absurd (omega arith)
 records-count (k ∷ t ∷ o ∷ a ∷ m ∷ ws) n e = omega (arith, records-count ws (n - 1) (omega arith))
 
 -- the i-th record put into the array: what is left to put makes the same array
-pub put-more : (ws : List ℕ) (q : List Record) (i n : ℕ) {r : Record} → i < n → length ws ≡ n * 5 → r ≡ recordIn ws (i * 5)
+pub put-more : (ws : List ℕ) (q : List Record) (i n : ℕ) {r : Record} → i < n → length ws ≡ n * 5
+    → r ≡ recordIn ws (i * 5)
     → sets (set q i r) (i + 1) (recordsOf (drop ((i + 1) * 5) ws)) ≡ sets q i (recordsOf (drop (i * 5) ws))
-put-more ws q i n h e f = let s : (i + 1) * 5 ≡ i * 5 + 5 = omega arith in rw (s, records-step ws (i * 5) (omega arith), f, add-one i)
+put-more ws q i n h e f = let s : (i + 1) * 5 ≡ i * 5 + 5 = omega arith in rw
+    (s, records-step ws (i * 5) (omega arith), f, add-one i)
 
 -- and when none is left, its first n are the records
-pub put-all : (ws : List ℕ) (q q₀ : List Record) (n : ℕ) → n ≤ length q₀ → length ws ≡ n * 5 → sets q n (recordsOf (drop (n * 5) ws)) ≡ sets q₀ 0 (recordsOf ws) → take n q ≡ recordsOf ws
+pub put-all : (ws : List ℕ) (q q₀ : List Record) (n : ℕ) → n ≤ length q₀ → length ws ≡ n * 5
+    → sets q n (recordsOf (drop (n * 5) ws)) ≡ sets q₀ 0 (recordsOf ws) → take n q ≡ recordsOf ws
 put-all ws q q₀ n l e f =
     let k : length (recordsOf ws) ≡ n = records-count ws n e in
     let g : q ≡ sets q₀ 0 (recordsOf ws) = sym (ap (sets q n) (records-end ws (n * 5) (omega arith))) ∙ f in
@@ -115,27 +123,44 @@ put-all ws q q₀ n l e f =
 
 -- ---- the ways out of a call
 
-by-1 : (F : Form) (list : List ℕ) (s : Tables) (ws rs vs : List ℕ) → flatly F list s ws (length rs) (length vs) ≡ refused 1 s → Flats (flatly F list s ws (length rs) (length vs)) rs vs 1 s rs vs
+by-1 : (F : Form) (list : List ℕ) (s : Tables) (ws rs vs : List ℕ)
+    → flatly F list s ws (length rs) (length vs) ≡ refused 1 s
+    → Flats (flatly F list s ws (length rs) (length vs)) rs vs 1 s rs vs
 unfolding calledNumber
-by-1 F list s ws rs vs e = rw e (record { number = refl; after = refl; report = sym (over-none rs); answers = sym (over-none vs) })
+by-1 F list s ws rs vs e = rw e (record
+    { number = refl; after = refl; report = sym (over-none rs); answers = sym (over-none vs) })
 
 -- the words are no records
-pub flat-refused : (F : Form) (list : List ℕ) (s : Tables) (ws rs vs : List ℕ) → isFlat ws ≡ false → Flats (flatly F list s ws (length rs) (length vs)) rs vs 1 s rs vs
+pub flat-refused : (F : Form) (list : List ℕ) (s : Tables) (ws rs vs : List ℕ) → isFlat ws ≡ false
+    → Flats (flatly F list s ws (length rs) (length vs)) rs vs 1 s rs vs
 unfolding flatly
 flat-refused F list s ws rs vs e = by-1 F list s ws rs vs (rw e)
 
 -- they are too many
-pub flat-many : (F : Form) (list : List ℕ) (s : Tables) (ws rs vs : List ℕ) → isFlat ws ≡ true → mostRecords < length ws / 5
+pub flat-many : (F : Form) (list : List ℕ) (s : Tables) (ws rs vs : List ℕ) → isFlat ws ≡ true
+    → mostRecords < length ws / 5
     → Flats (flatly F list s ws (length rs) (length vs)) rs vs 1 s rs vs
 unfolding flatly first called
 flat-many F list s ws rs vs e h =
     let k : length (recordsOf ws) ≡ length ws / 5 = records-count ws (length ws / 5) (flat-fives ws e) in
     by-1 F list s ws rs vs
-    (rw (e, ← room-too-many F (length (s .tasks)) (length (s .promises)) (length (recordsOf ws)) (length rs) (length vs) (omega arith)))
+    (rw (
+      e,
+      ← room-too-many F (length (s .tasks)) (length (s .promises)) (length (recordsOf ws)) (length rs)
+          (length vs) (omega arith),
+    ))
 
 -- they are the call by the records
-pub flat-batches : (F : Form) (list : List ℕ) (s : Tables) (ws rs vs : List ℕ) (q : List Record) {c : Called} {r : ℕ} {s′ : Tables} {rs′ vs′ : List ℕ} → isFlat ws ≡ true → q ≡ recordsOf ws
-    → Batches (batched F list s q (length rs) (length vs)) rs vs c s′ rs′ vs′ → r ≡ calledNumber c → Flats (flatly F list s ws (length rs) (length vs)) rs vs r s′ rs′ vs′
+pub flat-batches : (F : Form) (list : List ℕ) (s : Tables) (ws rs vs : List ℕ) (q : List Record) {c : Called} {r : ℕ}
+    {s′ : Tables} {rs′ vs′ : List ℕ} → isFlat ws ≡ true → q ≡ recordsOf ws
+    → Batches (batched F list s q (length rs) (length vs)) rs vs c s′ rs′ vs′ → r ≡ calledNumber c
+    → Flats (flatly F list s ws (length rs) (length vs)) rs vs r s′ rs′ vs′
 unfolding flatly
 flat-batches F list s ws rs vs q e f g h =
-    rw (e, ← f) (record { number = h ∙ ap calledNumber (g .answer); after = g .after; report = g .report; answers = g .answers })
+    rw (e, ← f) (record {
+      number = h ∙ ap calledNumber (g .answer);
+      after = g .after;
+      report = g .report;
+      answers =
+          g .answers;
+    })

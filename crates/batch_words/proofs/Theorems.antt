@@ -13,9 +13,16 @@ use Rattle.batch.specs.Batches.{CallOutcome, batched}
 use Rattle.batch_words.specs.Flat.{kindOf, kindWord, recordsOf, wordsOf, isFlat, flatly, Flats}
 
 -- any two outcomes that the contract of `batch_words` allows coincide
-pub flat-unique : {o : CallOutcome} {rs ws : List ℕ} {r r′ : ℕ} {s s′ : Tables} {rs₁ rs₂ ws₁ ws₂ : List ℕ} → Flats o rs ws r s rs₁ ws₁ → Flats o rs ws r′ s′ rs₂ ws₂
+pub flat-unique : {o : CallOutcome} {rs ws : List ℕ} {r r′ : ℕ} {s s′ : Tables} {rs₁ rs₂ ws₁ ws₂ : List ℕ}
+    → Flats o rs ws r s rs₁ ws₁ → Flats o rs ws r′ s′ rs₂ ws₂
     → (r ≡ r′) × (s ≡ s′) × (rs₁ ≡ rs₂) × (ws₁ ≡ ws₂)
-flat-unique g h = (g .number ∙ sym (h .number), g .after ∙ sym (h .after), g .report ∙ sym (h .report), g .answers ∙ sym (h .answers))
+flat-unique g h = (
+  g .number ∙ sym (h .number),
+  g .after ∙ sym (h .after),
+  g .report ∙ sym (h .report),
+  g .answers
+      ∙ sym (h .answers),
+)
 
 -- ---- the words of records stand for these records, so a call by them is the call by the records
 
@@ -45,7 +52,8 @@ unfolding isFlat wordsOf
 words-flat [] = refl
 words-flat (r ∷ rs) = rw (kind-below (r .kind), words-flat rs)
 
-pub flat-is-batch : (F : Form) (list : List ℕ) (s : Tables) (rs : List Record) (m k : ℕ) → flatly F list s (wordsOf rs) m k ≡ batched F list s rs m k
+pub flat-is-batch : (F : Form) (list : List ℕ) (s : Tables) (rs : List Record) (m k : ℕ)
+    → flatly F list s (wordsOf rs) m k ≡ batched F list s rs m k
 unfolding flatly
 flat-is-batch F list s rs m k = rw (words-flat rs, records-back rs)
 

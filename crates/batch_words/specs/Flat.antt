@@ -7,7 +7,8 @@
 --   wordsOf rs               the words of records
 --   isFlat ws                the words are whole records, each of one of the five kinds
 --   calledNumber c           the answer to a call as a number: its refusal, or 0
---   flatly F list s ws m k   the outcome of a call by words: refused by 1 if they are no records, else that of the call by the records
+--   flatly F list s ws m k   the outcome of a call by words: refused by 1 if they are no records, else that of the
+--                            call by the records
 --   Flats ..                 what a call by words returns, and leaves of the tables, the report and the answers
 -- Assumes nothing.
 use Prim.Native.Nat.{ℕ, _+_}

@@ -1,4 +1,5 @@
-// The batch for callers that know numbers alone: a record is five words, its kind, its task, its other number, and the start and the length of its part of the list.
+// The batch for callers that know numbers alone: a record is five words, its kind, its task, its other number, and
+// the start and the length of its part of the list.
 use batch::Called;
 use batch::batch;
 use batch_record::Record;
@@ -90,7 +91,10 @@ fn batch_first(
     answers: &mut [u16],
 ) -> Called
     requires { ⌜ n ≤ mostRecords ⌝ }
-    ensures { λ r. ⌜ Batches (batched small (now (list .entry)) (tablesOf (now (tasks .entry)) (now (promises .entry))) (take n records) (length (now (report .entry))) (length (now (answers .entry)))) (now (report .entry)) (now (answers .entry)) r (tablesOf (now (tasks .exit)) (now (promises .exit))) (now (report .exit)) (now (answers .exit)) ⌝ }
+    ensures { λ r. ⌜ Batches (batched small (now (list .entry))
+        (tablesOf (now (tasks .entry)) (now (promises .entry))) (take n records) (length (now (report .entry)))
+        (length (now (answers .entry)))) (now (report .entry)) (now (answers .entry)) r
+        (tablesOf (now (tasks .exit)) (now (promises .exit))) (now (report .exit)) (now (answers .exit)) ⌝ }
 {
     batch(tasks, promises, report, &records[0..n], list, answers)
 }
@@ -114,7 +118,10 @@ pub fn batch_words(
     list: &[u16],
     answers: &mut [u16],
 ) -> u16
-    ensures { λ r. ⌜ Flats (flatly small (now (list .entry)) (tablesOf (now (tasks .entry)) (now (promises .entry))) (now (steps .entry)) (length (now (report .entry))) (length (now (answers .entry)))) (now (report .entry)) (now (answers .entry)) r (tablesOf (now (tasks .exit)) (now (promises .exit))) (now (report .exit)) (now (answers .exit)) ⌝ }
+    ensures { λ r. ⌜ Flats (flatly small (now (list .entry)) (tablesOf (now (tasks .entry)) (now (promises .entry)))
+        (now (steps .entry)) (length (now (report .entry))) (length (now (answers .entry)))) (now (report .entry))
+        (now (answers .entry)) r (tablesOf (now (tasks .exit)) (now (promises .exit))) (now (report .exit))
+        (now (answers .exit)) ⌝ }
 {
     if !is_flat(steps) {
         return 1;

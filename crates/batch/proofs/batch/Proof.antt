@@ -1,6 +1,6 @@
--- `batch::batch` meets its contract: the records still to take, from the tables as they are, make what all of them make of the
--- tables lent (`Going`). `Proof/Lts.antt` is the derivation of its MIR at a slice of structs, `Proof/Tie.antt` its needs at the
--- contract; tools/carry makes both.
+-- `batch::batch` meets its contract: the records still to take, from the tables as they are, make what all of them
+-- make of the tables lent (`Going`). `Proof/Lts.antt` is the derivation of its MIR at a slice of structs,
+-- `Proof/Tie.antt` its needs at the contract; tools/carry makes both.
 -- Assumes nothing.
 pub mod Lts
 pub mod Tie
@@ -45,7 +45,8 @@ same-length-2 c = search needs
 returns : tie.Need-returns Inv-loop μ-loop
 returns c =
     let a = start (c .before) .args in
-    call-refused small small-apart (a .list .now) (a .records .now) (tables (a .tasks .now) (a .promises .now)) (a .report .now)
+    call-refused small small-apart (a .list .now) (a .records .now) (tables (a .tasks .now) (a .promises .now))
+    (a .report .now)
     (a .answers .now) (c .before .call-refusal .ensures) (c .if1 .taken)
 
 loop-holds : tie.Need-loop-holds Inv-loop μ-loop
@@ -55,10 +56,12 @@ record-at-requires : tie.Need-record-at-requires Inv-loop μ-loop
 record-at-requires c κs = search needs
 
 turn-requires : tie.Need-turn-requires Inv-loop μ-loop
-turn-requires c κs = let turn = read c .before in going-asks _ _ _ _ _ _ _ (turn .before .loop .inv) (turn .loop-test .taken)
+turn-requires c κs = let turn = read c .before in going-asks _ _ _ _ _ _ _ (turn .before .loop .inv)
+    (turn .loop-test .taken)
 
 add-i : tie.Need-add-i Inv-loop μ-loop
-add-i c = let turn = read (turned c .before) .before in omega (arith, turn .before .loop .inv .few, turn .loop-test .taken)
+add-i c = let turn = read (turned c .before) .before in omega
+    (arith, turn .before .loop .inv .few, turn .loop-test .taken)
 
 loop-less : tie.Need-loop-less Inv-loop μ-loop
 loop-less c = omega arith
@@ -67,7 +70,8 @@ loop-again : tie.Need-loop-again Inv-loop μ-loop
 loop-again c =
     let had = read (turned c .before) in
     let turn = had .before in
-    going-turn _ _ _ _ _ _ _ (turn .before .loop .inv) (turn .loop-test .taken) _ (had .record-at .ensures) (turned c .turn .ensures)
+    going-turn _ _ _ _ _ _ _ (turn .before .loop .inv) (turn .loop-test .taken) _ (had .record-at .ensures)
+    (turned c .turn .ensures)
 
 same-length-3 : tie.Need-same-length-3 Inv-loop μ-loop
 same-length-3 c = search needs
@@ -84,10 +88,12 @@ same-length-6 c = search needs
 returns-2 : tie.Need-returns-2 Inv-loop μ-loop
 returns-2 c =
     let begun = c .before .before in
-    going-end _ _ _ _ _ _ _ (sym (begun .before .call-refusal .ensures) ∙ begun .if1 .left) (c .before .loop .inv) (c .loop-test .left)
+    going-end _ _ _ _ _ _ _ (sym (begun .before .call-refusal .ensures) ∙ begun .if1 .left) (c .before .loop .inv)
+    (c .loop-test .left)
 
 pub batch-spec : {M : Type 1} → statement M
 batch-spec =
     tie.close
-    (tie.spec Inv-loop μ-loop call-refusal-requires same-length same-length-2 returns loop-holds record-at-requires turn-requires
+    (tie.spec Inv-loop μ-loop call-refusal-requires same-length same-length-2 returns loop-holds record-at-requires
+    turn-requires
     add-i loop-less loop-again same-length-3 same-length-4 same-length-5 same-length-6 returns-2)

@@ -19,7 +19,8 @@ fits : (c : tie.Then2) → sizesInBounds small (start c .args .tasks) (start c .
 fits c = sym (c .before .sizes-in-bounds .ensures) ∙ c .if2 .taken
 
 returns : tie.Need-returns
-returns c = let a = c .before .args in room-too-many small (a .tasks) (a .promises) (a .records) (a .report) (a .answers) (c .if1 .taken)
+returns c = let a = c .before .args in room-too-many small (a .tasks) (a .promises) (a .records) (a .report)
+    (a .answers) (c .if1 .taken)
 
 sizes-in-bounds-requires : tie.Need-sizes-in-bounds-requires
 sizes-in-bounds-requires c κs = search needs
@@ -39,12 +40,15 @@ mul-answered c = search needs
 returns-2 : tie.Need-returns-2
 returns-2 c =
     let a = start (c .before) .args in
-    rw (c .room-for .ensures) (room-rest small (a .tasks) (a .promises) (a .records) (a .report) (a .answers) (fits (c .before)) (c .before .before .before .if1 .left))
+    rw (c .room-for .ensures) (room-rest small (a .tasks) (a .promises) (a .records) (a .report) (a .answers)
+    (fits (c .before)) (c .before .before .before .if1 .left))
 
 returns-3 : tie.Need-returns-3
 returns-3 c =
     let a = c .before .before .before .args in
-    room-no-sizes small (a .tasks) (a .promises) (a .records) (a .report) (a .answers) (sym (c .before .sizes-in-bounds .ensures) ∙ c .if2 .left)
+    room-no-sizes small (a .tasks) (a .promises) (a .records) (a .report) (a .answers)
+    (sym (c .before .sizes-in-bounds .ensures) ∙ c .if2 .left)
 
 pub has-room-spec : {M : Type 1} → statement M
-has-room-spec = tie.close (tie.spec returns sizes-in-bounds-requires room-for-requires mul-reported mul-answered returns-2 returns-3)
+has-room-spec = tie.close (tie.spec returns sizes-in-bounds-requires room-for-requires mul-reported mul-answered
+    returns-2 returns-3)

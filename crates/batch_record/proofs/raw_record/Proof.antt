@@ -2,7 +2,7 @@
 use Prim.Native.Nat.{_+_, _-_}
 use mathlib.Core.Path.{_≡_, sym, _∙_}
 use Rattle.words.specs.Words.{small}
-use Rattle.rules.specs.Tables.{tables}
+use Rattle.rules.specs.Tables.{Tables, tables}
 use Rattle.batch_record.proofs.RecordLaws.{record-refused, part-taken, plain-taken}
 use native.Mathlib.Omega.{arith}
 use borrow.Author.Needs.{needs}
@@ -12,20 +12,30 @@ use Rattle.batch_record.proofs.raw_record.Tie as tie
 takes-list-requires : tie.Need-takes-list-requires
 takes-list-requires c κs = search needs
 
+-- the places that the needs speak of
+abbrev start : tie.After-takes-list → tie.Start
+start c = c .before .before .before .before .before
+
+abbrev lent : tie.After-takes-list → Tables
+lent c = let a = start c .args in tables (a .tasks .now) (a .promises .now)
+
 returns : tie.Need-returns
 returns c =
-    let x = c .before .before .before .before .before .before .before .args in
-    let s = tables (x .tasks .now) (x .promises .now) in
-    record-refused small s (x .list .now) (x .r) _ (sym (c .before .before .takes-list .ensures) ∙ c .before .if1 .taken) (omega arith)
+    let asked = c .before .before in
+    let a = start asked .args in
+    record-refused small (lent asked) (a .list .now) (a .r) _
+    (sym (asked .takes-list .ensures) ∙ c .before .if1 .taken) (omega arith)
 
 sub-if3 : tie.Need-sub-if3
 sub-if3 c = search needs
 
 returns-2 : tie.Need-returns-2
 returns-2 c =
-    let x = c .before .before .before .before .before .before .before .before .before .args in
-    let s = tables (x .tasks .now) (x .promises .now) in
-    record-refused small s (x .list .now) (x .r) _ (sym (c .before .before .before .before .takes-list .ensures) ∙ c .before .before .before .if1 .taken) (omega arith)
+    let listed = c .before .before .before in
+    let asked = listed .before in
+    let a = start asked .args in
+    record-refused small (lent asked) (a .list .now) (a .r) _ (sym (asked .takes-list .ensures) ∙ listed .if1 .taken)
+    (omega arith)
 
 add-end : tie.Need-add-end
 add-end c = search needs
@@ -56,10 +66,11 @@ same-length-3 c = search needs
 
 returns-3 : tie.Need-returns-3
 returns-3 c =
-    let x = c .before .before .before .before .before .before .before .before .before .before .before .before .before .before .before .before .before .before .before .before .before .args in
-    let s = tables (x .tasks .now) (x .promises .now) in
-    let e : x .r .start + x .r .length - x .r .start ≡ x .r .length = omega arith in
-    part-taken small s (x .list .now) (x .r) (omega arith) (rw e at (c .before .before .before .before .before .before .raw .ensures))
+    let taken = c .before .before .before .before .before .before in
+    let asked = taken .before .before .before .before .before .before .before .before .before .before in
+    let a = start asked .args in
+    let e : a .r .start + a .r .length - a .r .start ≡ a .r .length = omega arith in
+    part-taken small (lent asked) (a .list .now) (a .r) (omega arith) (rw e at (taken .raw .ensures))
 
 raw-requires-2 : tie.Need-raw-requires-2
 raw-requires-2 c κs = search needs
@@ -75,9 +86,12 @@ same-length-6 c = search needs
 
 returns-4 : tie.Need-returns-4
 returns-4 c =
-    let x = c .before .before .before .before .before .before .before .before .before .before .before .before .before .before .before .before .args in
-    let s = tables (x .tasks .now) (x .promises .now) in
-    plain-taken small s (x .list .now) (x .r) (sym (c .before .before .before .before .before .before .before .before .before .before .before .takes-list .ensures) ∙ c .before .before .before .before .before .before .before .before .before .before .if1 .left) (c .before .before .before .before .before .before .raw2 .ensures)
+    let taken = c .before .before .before .before .before .before in
+    let unlisted = taken .before .before .before .before in
+    let asked = unlisted .before in
+    let a = start asked .args in
+    plain-taken small (lent asked) (a .list .now) (a .r) (sym (asked .takes-list .ensures) ∙ unlisted .if1 .left)
+    (taken .raw2 .ensures)
 
 pub raw-record-spec : {M : Type 1} → statement M
 raw-record-spec =

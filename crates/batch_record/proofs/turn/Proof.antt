@@ -1,10 +1,26 @@
+-- `batch_record::turn` meets its contract: what the step and `tell` do to the rests of the report and the answers
+-- (`turned`).
+-- Assumes nothing.
 use Rattle.words.specs.Words.{small}
-use Rattle.rules.specs.Tables.{tables}
+use Rattle.rules.specs.Tables.{Tables, tables}
 use Rattle.batch_record.proofs.RecordLaws.{rest-bounds, next-within, turned}
 use native.Mathlib.Omega.{arith}
 use borrow.Author.Needs.{needs}
 use Rattle.batch_record.proofs.turn.Statement.{statement}
 use Rattle.batch_record.proofs.turn.Tie as tie
+
+-- the places that the needs speak of
+abbrev told : tie.After-word-count → tie.After-tell
+told c = c .before .before .before
+
+abbrev stepped : tie.After-tell → tie.After-raw-record
+stepped c = c .before .before .before .before .before .before .before .before
+
+abbrev start : tie.After-raw-record → tie.Start
+start c = c .before .before .before .before .before .before .before .before .before
+
+abbrev lent : tie.Start → Tables
+lent c = tables (c .args .tasks .now) (c .args .promises .now)
 
 mul-raw-record : tie.Need-mul-raw-record
 mul-raw-record c = search needs
@@ -19,7 +35,9 @@ part-raw-record-end : tie.Need-part-raw-record-end
 part-raw-record-end c = search needs
 
 raw-record-requires : tie.Need-raw-record-requires
-raw-record-requires c κs = rest-bounds small _ (c .before .before .before .before .before .before .before .before .args .at) (c .before .before .before .before .before .before .before .before .args .report .now) (c .before .before .before .before .before .before .before .before .pre .0)
+raw-record-requires c κs =
+    let x = c .before .before .before .before .before .before .before .before in
+    rest-bounds small _ (x .args .at) (x .args .report .now) (x .pre .0)
 
 mul-tell : tie.Need-mul-tell
 mul-tell c = search needs
@@ -44,8 +62,12 @@ word-count-requires c κs = search needs
 
 add-result : tie.Need-add-result
 add-result c =
-    let x = c .before .before .before .before .before .before .before .before .before .before .before .before .before .before .before .before .before .before .before .before in
-    let h = next-within small (x .args .list .now) (tables (x .args .tasks .now) (x .args .promises .now)) (x .args .r) (x .args .at) (x .args .report .now) (x .pre .0) (c .before .before .before .before .before .before .before .before .before .before .before .raw-record .ensures) (c .word-count .ensures) (x .pre .1) in
+    let did = stepped (told c) in
+    let x = start did in
+    let a = x .args in
+    let h = next-within small (a .list .now) (lent x) (a .r) (a .at) (a .report .now) (x .pre .0)
+    (did .raw-record .ensures)
+    (c .word-count .ensures) (x .pre .1) in
     omega (arith, h)
 
 same-length : tie.Need-same-length
@@ -62,9 +84,12 @@ same-length-4 c = search needs
 
 returns : tie.Need-returns
 returns c =
-    let x = c .before .before .before .before .before .before .before .before .before .before .before .before .before .before .before .before .before .before .before .before in
-    turned small (x .args .list .now) (tables (x .args .tasks .now) (x .args .promises .now)) (x .args .r) (x .args .at) (x .args .i) (x .args .report .now) (x .args .answers .now)
-    (x .pre .0) (x .pre .1) (x .pre .2) (c .before .before .before .before .before .before .before .before .before .before .before .raw-record .ensures) (c .before .before .before .tell .ensures .1) (c .word-count .ensures)
+    let did = stepped (told c) in
+    let x = start did in
+    let a = x .args in
+    turned small (a .list .now) (lent x) (a .r) (a .at) (a .i) (a .report .now) (a .answers .now) (x .pre .0)
+    (x .pre .1) (x .pre .2)
+    (did .raw-record .ensures) (told c .tell .ensures .1) (c .word-count .ensures)
 
 pub turn-spec : {M : Type 1} → statement M
 turn-spec =

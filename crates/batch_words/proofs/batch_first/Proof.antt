@@ -1,4 +1,5 @@
--- `batch_words::batch_first` meets its contract, by what `batch::batch` ensures. `Proof/Lts.antt` is the derivation of its MIR. Assumes nothing.
+-- `batch_words::batch_first` meets its contract, by what `batch::batch` ensures. `Proof/Lts.antt` is the derivation
+-- of its MIR. Assumes nothing.
 pub mod Lts
 pub mod Tie
 use native.Mathlib.Numerals.{unary-clauses}
@@ -34,4 +35,5 @@ returns : tie.Need-returns
 returns c = let did : tie.After-batch = c .before .before .before .before in simp unary-clauses at (did .batch .ensures)
 
 pub batch-first-spec : {M : Type 1} → statement M
-batch-first-spec = tie.close (tie.spec sub-batch part-batch-start part-batch-end batch-requires same-length same-length-2 same-length-3 same-length-4 returns)
+batch-first-spec = tie.close (tie.spec sub-batch part-batch-start part-batch-end batch-requires same-length
+    same-length-2 same-length-3 same-length-4 returns)

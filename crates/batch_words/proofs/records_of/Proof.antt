@@ -12,7 +12,8 @@ use Rattle.batch_words.proofs.records_of.Statement.{statement}
 use Rattle.batch_words.proofs.records_of.Tie as tie
 
 abbrev Inv-loop : tie.InvT-loop
-Inv-loop steps n records₀ i₀ records i = (i ≤ n) × (length records ≡ mostRecords) × (length records₀ ≡ mostRecords) × (sets records i (recordsOf (drop (i * 5) steps)) ≡ sets records₀ 0 (recordsOf steps))
+Inv-loop steps n records₀ i₀ records i = (i ≤ n) × (length records ≡ mostRecords) × (length records₀ ≡ mostRecords)
+    × (sets records i (recordsOf (drop (i * 5) steps)) ≡ sets records₀ 0 (recordsOf steps))
 
 abbrev μ-loop : tie.MeasureT-loop
 μ-loop steps n records₀ i₀ records i = n - i
@@ -48,7 +49,8 @@ loop-again c =
       omega arith,
       length-set (l .loop .records) (l .loop .i) _ ∙ l .loop .inv .1,
       l .loop .inv .2,
-      put-more (s .args .steps .now) (l .loop .records) (l .loop .i) (s .args .n) (c .before .loop-test .taken) (s .pre .1) (c .record-of2 .ensures) ∙ l .loop .inv .3,
+      put-more (s .args .steps .now) (l .loop .records) (l .loop .i) (s .args .n) (c .before .loop-test .taken)
+          (s .pre .1) (c .record-of2 .ensures) ∙ l .loop .inv .3,
     )
 
 returns : tie.Need-returns Inv-loop μ-loop
@@ -56,9 +58,11 @@ returns c =
     let l = c .before in
     let s = l .before .before .before in
     let e : l .loop .i ≡ s .args .n = omega arith in
-    put-all (s .args .steps .now) (l .loop .records) (replicate mostRecords (l .before .record-of .result)) (s .args .n) (s .pre .0) (s .pre .1) (rw (← e) (l .loop .inv .3))
+    put-all (s .args .steps .now) (l .loop .records) (replicate mostRecords (l .before .record-of .result))
+    (s .args .n) (s .pre .0) (s .pre .1) (rw (← e) (l .loop .inv .3))
 
 pub records-of-spec : {M : Type 1} → statement M
 records-of-spec =
     tie.close
-    (tie.spec Inv-loop μ-loop record-of-requires loop-holds mul-record-of record-of-requires-2 mul-records array-set-from-records add-i loop-less loop-again returns)
+    (tie.spec Inv-loop μ-loop record-of-requires loop-holds mul-record-of record-of-requires-2 mul-records
+    array-set-from-records add-i loop-less loop-again returns)
