@@ -1,6 +1,6 @@
 -- Laws of specs/Carrying.antt and specs/Running.antt: what waits in the output array, the lines of a block, and the run
 -- from read to read. Assumes nothing.
-use Prim.Native.Nat.{ℕ, zero, suc, _+_, _-_, _^_, _≤_, _<_}
+use Prim.Native.Nat.{ℕ, suc, _+_, _-_, _^_, _≤_, _<_}
 use mathlib.Core.List.{List, [], _∷_, _++_, append-assoc, append-nil}
 use mathlib.Core.Bool.{Bool, true, false, not, _&&_}
 use mathlib.Core.Path.{_≡_, refl, ap, sym, subst, _∙_}
@@ -20,11 +20,12 @@ use Rattle.line_session.specs.declared.Session.the-variants.{Unopened}
 use Rattle.line_serving.specs.declared.Served.{Served}
 use Rattle.line_serving.specs.Serving.{Turn, turnOf, Serves}
 use Rattle.line_serving.specs.Input.{Desk, opening, feed, ended, Advances, zeroTables}
-use Rattle.line_serving.proofs.Theorems.{serve-takes, fed-stopped, in-pieces, opening-buffered, last-is-last}
+use Rattle.line_serving.proofs.Theorems.{serve-takes, feed-none, fed-stopped, in-pieces, opening-buffered}
+use Rattle.line_serving.proofs.Theorems.{last-is-last}
 use Rattle.bench.specs.declared.State.{State}
 use Rattle.bench.specs.declared.Ran.{Ran}
-use Rattle.bench.specs.Carrying.{SameLine, counted, PutOut, Waiting, At, Fed}
-use Rattle.bench.specs.Running.{Came, none, more, deskAfter, Reached, mostReads}
+use Rattle.bench.specs.Carrying.{SameLine, wrapped, PutOut, Waiting, At, Fed}
+use Rattle.bench.specs.Running.{none, more, Reached, mostReads}
 
 -- ---- what waits in the output array
 
@@ -60,10 +61,10 @@ module _ (said o : List ℕ) (s : State) (w : Waiting said s o) where
           ap length (w .rest) ∙ length-append (w .gone) (take (s .used) o)
           ∙ ap (λ (n : ℕ). length (w .gone) + n) (length-take-le (s .used) o l)
 
-      sum : counted (s .put + s .used) ≡ counted (length said)
+      sum : wrapped (s .put + s .used) ≡ wrapped (length said)
       sum =
-          ap (λ (n : ℕ). counted (n + s .used)) (w .count) ∙ mod-add-mod (length (w .gone)) (2 ^ 64) (s .used)
-          ∙ ap counted (sym size)
+          ap (λ (n : ℕ). wrapped (n + s .used)) (w .count) ∙ mod-add-mod (length (w .gone)) (2 ^ 64) (s .used)
+          ∙ ap wrapped (sym size)
 
   -- what was written after it waits too
   waits-more : (u y : List ℕ) (k : ℕ) (r : State) → s .used ≤ length o → y ≡ take (s .used) o ++ u
@@ -236,10 +237,6 @@ opening-at s x o l e₁ e₂ e₃ e₄ e₅ e₆ = record {
   going = sym e₆;
   waits = record { gone = []; rest = rw e₄; count = e₅ };
 }
-
-feed-none : (d : Desk) → feed d [] ≡ d
-unfolding feed
-feed-none d = refl
 
 pub reached-start : (r : Ran) (x o : List ℕ) → length x ≡ longestLine
     → (r .state .have ≡ 0) × (r .state .lines ≡ 0) × (r .state .session ≡ Unopened) × (r .state .used ≡ 0)

@@ -2,7 +2,7 @@
 use Prim.Native.Nat.{ℕ, _<_}
 use mathlib.Core.Path.{_≡_, refl, ap, sym, subst, _∙_}
 use mathlib.Core.Logic.{_⊎_, inl, inr}
-use mathlib.Core.List.{List, [], append-nil}
+use mathlib.Core.List.{List, append-nil}
 use mathlib.Core.Bool.{Bool, true, false}
 use native.Mathlib.Omega.{arith}
 use native.Mathlib.Nat.{mod-eq-of-lt}
@@ -13,14 +13,14 @@ use Rattle.line_serving.specs.Input.{Desk, opening, feed, ended, printed}
 use Rattle.line_serving.proofs.Theorems.{printed-most, ended-stopped}
 use Rattle.bench.specs.declared.Ran.{Ran}
 use Rattle.bench.specs.declared.State.{State}
-use Rattle.bench.specs.Carrying.{counted, Waiting, At}
+use Rattle.bench.specs.Carrying.{wrapped, Waiting, At}
 use Rattle.bench.specs.Running.{deskAfter, Runs}
 
 -- where nothing waits, all that was said was handed to write
-all-put : (said : List ℕ) (s : State) (o : List ℕ) → Waiting said s o → s .used ≡ 0 → s .put ≡ counted (length said)
+all-put : (said : List ℕ) (s : State) (o : List ℕ) → Waiting said s o → s .used ≡ 0 → s .put ≡ wrapped (length said)
 all-put said s o w e =
     let z : said ≡ w .gone = rw (e, append-nil) at (w .rest) in
-    w .count ∙ ap (λ (t : List ℕ). counted (length t)) (sym z)
+    w .count ∙ ap (λ (t : List ℕ). wrapped (length t)) (sym z)
 
 module _ {r : Ran} {x : List ℕ} {st : Tables} {rs o : List ℕ} (w : Runs r x st rs o) where
   abbrev I : List ℕ

@@ -2,6 +2,7 @@
 --
 --   SameLine s r         the state r has the line so far, the count of lines, the session value and the flag `going`
 --                        of s
+--   wrapped n            a count of n bytes, in a word of 64 bits
 --   PutOut s r           the state r is s, and what waited in the output array was handed to write
 --   Waiting said s o     the bytes of the output array o that wait are the last ones of what was said, and all before
 --                        them were handed to write
@@ -24,19 +25,19 @@ abbrev pub SameLine : State → State → Type 0
 SameLine s r = (r .have ≡ s .have) × (r .lines ≡ s .lines) × (r .session ≡ s .session) × (r .going ≡ s .going)
 
 -- the bytes that were handed to write are counted in a word of 64 bits
-abbrev pub counted : ℕ → ℕ
-counted n = n % 2 ^ 64
+abbrev pub wrapped : ℕ → ℕ
+wrapped n = n % 2 ^ 64
 
 -- the output may have been found closed
 abbrev pub PutOut : State → State → Type 0
 PutOut s r =
-    (r .from ≡ s .from) × SameLine s r × (r .used ≡ 0) × (r .put ≡ counted (s .put + s .used))
+    (r .from ≡ s .from) × SameLine s r × (r .used ≡ 0) × (r .put ≡ wrapped (s .put + s .used))
     × (r .open ≡ true → s .open ≡ true)
 
 pub record Waiting (said : List ℕ) (s : State) (o : List ℕ) : Type 0 where
   pub gone : List ℕ
   pub rest : said ≡ gone ++ take (s .used) o
-  pub count : s .put ≡ counted (length gone)
+  pub count : s .put ≡ wrapped (length gone)
 
 pub record At (d : Desk) (s : State) (x : List ℕ) (st : Tables) (rs o : List ℕ) : Type 0 where
   pub buffer : Buffered d x (s .have)

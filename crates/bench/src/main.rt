@@ -160,19 +160,20 @@ fn serve_line(
 }
 
 // The same place in a new block: its start.
-fn at_start(s: State) -> State
-    ensures { λ r. ⌜ (r .from ≡ 0) × SameLine s r × (r .used ≡ s .used) × (r .put ≡ s .put) × (r .open ≡ s .open) ⌝ }
+fn at_start(was: State) -> State
+    ensures { λ r. ⌜ (r .from ≡ 0) × SameLine was r × (r .used ≡ was .used) × (r .put ≡ was .put)
+        × (r .open ≡ was .open) ⌝ }
 {
-    let session = s.session;
+    let session = was.session;
     State {
         from: 0,
-        have: s.have,
-        lines: s.lines,
+        have: was.have,
+        lines: was.lines,
         session,
-        used: s.used,
-        put: s.put,
-        going: s.going,
-        open: s.open,
+        used: was.used,
+        put: was.put,
+        going: was.going,
+        open: was.open,
     }
 }
 

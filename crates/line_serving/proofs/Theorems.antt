@@ -104,7 +104,7 @@ feed-first : (d : Desk) (b : ℕ) (s : List ℕ) → feed d (b ∷ s) ≡ feed (
 unfolding feed
 feed-first d b s = refl
 
-feed-none : (d : Desk) → feed d [] ≡ d
+pub feed-none : (d : Desk) → feed d [] ≡ d
 unfolding feed
 feed-none d = refl
 

@@ -1,6 +1,5 @@
 -- `finish` meets its contract: the LF that the last line lacks is a block of its own. Assumes nothing.
 use mathlib.Core.Path.{sym, _∙_}
-use Rattle.rules.specs.Tables.{Tables, tables}
 use Rattle.bench.proofs.BenchLaws.{ended-line, ended-none}
 use borrow.Author.Needs.{needs}
 use Rattle.bench.proofs.finish.Statement.{statement}

@@ -5,7 +5,7 @@ use Prim.Native.Nat.{ℕ, _+_}
 use native.Mathlib.Nat.{sub-zero}
 use lib.Seq.{length-take-le}
 use Rattle.words.proofs.BoolLaws.{and-split}
-use Rattle.bench.specs.Carrying.{counted}
+use Rattle.bench.specs.Carrying.{wrapped}
 use borrow.Author.Needs.{needs}
 use Rattle.bench.proofs.put_out.Statement.{statement}
 use Rattle.bench.proofs.put_out.Tie as tie
@@ -37,7 +37,7 @@ returns c =
       refl,
       (refl, refl, refl, refl),
       refl,
-      added .wrapping-add-u64 .ensures ∙ ap (λ (n : ℕ). counted (s .put + n)) all,
+      added .wrapping-add-u64 .ensures ∙ ap (λ (n : ℕ). wrapped (s .put + n)) all,
       λ g. and-split (s .open) (handed .hand-over .result .taken) g .0,
     )
 

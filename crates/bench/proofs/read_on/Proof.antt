@@ -1,5 +1,4 @@
 -- `read_on` meets its contract: what a read brought was served, and what waited was put out. Assumes nothing.
-use Prim.Native.Nat.{_≤_}
 use mathlib.Core.Path.{refl}
 use native.Mathlib.Omega.{arith}
 use Rattle.bench.proofs.BenchLaws.{reached-block, reached-end, part-some}
