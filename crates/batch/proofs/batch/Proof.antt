@@ -56,12 +56,14 @@ record-at-requires : tie.Need-record-at-requires Inv-loop μ-loop
 record-at-requires c κs = search needs
 
 turn-requires : tie.Need-turn-requires Inv-loop μ-loop
-turn-requires c κs = let turn = read c .before in going-asks _ _ _ _ _ _ _ (turn .before .loop .inv)
-    (turn .loop-test .taken)
+turn-requires c κs =
+    let turn = read c .before in
+    going-asks _ _ _ _ _ _ _ (turn .before .loop .inv) (turn .loop-test .taken)
 
 add-i : tie.Need-add-i Inv-loop μ-loop
-add-i c = let turn = read (turned c .before) .before in omega
-    (arith, turn .before .loop .inv .few, turn .loop-test .taken)
+add-i c =
+    let turn = read (turned c .before) .before in
+    omega (arith, turn .before .loop .inv .few, turn .loop-test .taken)
 
 loop-less : tie.Need-loop-less Inv-loop μ-loop
 loop-less c = omega arith
@@ -95,5 +97,4 @@ pub batch-spec : {M : Type 1} → statement M
 batch-spec =
     tie.close
     (tie.spec Inv-loop μ-loop call-refusal-requires same-length same-length-2 returns loop-holds record-at-requires
-    turn-requires
-    add-i loop-less loop-again same-length-3 same-length-4 same-length-5 same-length-6 returns-2)
+    turn-requires add-i loop-less loop-again same-length-3 same-length-4 same-length-5 same-length-6 returns-2)
