@@ -10,7 +10,7 @@ use Rattle.step_kinds.specs.declared.Kind.{Kind}
 use Rattle.step_kinds.specs.declared.Kind.the-variants.{New, Set, Get, Async, End}
 use Rattle.batch_record.specs.declared.Record.{Record}
 use Rattle.batch.specs.Batches.{CallOutcome, batched}
-use Rattle.batch_words.specs.Flat.{kindOf, kindWord, recordsOf, wordsOf, isFlat, flatly, Flats}
+use Rattle.batch_words.specs.Flat.{kindOf, recordsOf, isFlat, flatly, Flats}
 
 -- any two outcomes that the contract of `batch_words` allows coincide
 pub flat-unique : {o : CallOutcome} {rs ws : List ℕ} {r r′ : ℕ} {s s′ : Tables} {rs₁ rs₂ ws₁ ws₂ : List ℕ}
@@ -24,38 +24,35 @@ flat-unique g h = (
       ∙ sym (h .answers),
 )
 
--- ---- the words of records stand for these records, so a call by them is the call by the records
+-- ---- any records have words that stand for them, and a call by these is the call by the records
 
-kind-back : (c : Kind) → kindOf (kindWord c) ≡ c
-unfolding kindOf kindWord
-kind-back New = refl
-kind-back Set = refl
-kind-back Get = refl
-kind-back Async = refl
-kind-back End = refl
+kindWord : Kind → ℕ
+kindWord New = 0
+kindWord Set = 1
+kindWord Get = 2
+kindWord Async = 3
+kindWord End = 4
 
-kind-below : (c : Kind) → leb (kindWord c) 4 ≡ true
-unfolding kindWord
-kind-below New = refl
-kind-below Set = refl
-kind-below Get = refl
-kind-below Async = refl
-kind-below End = refl
+kind-back : (c : Kind) → (kindOf (kindWord c) ≡ c) × (leb (kindWord c) 4 ≡ true)
+unfolding kindOf
+kind-back New = (refl, refl)
+kind-back Set = (refl, refl)
+kind-back Get = (refl, refl)
+kind-back Async = (refl, refl)
+kind-back End = (refl, refl)
 
-pub records-back : (rs : List Record) → recordsOf (wordsOf rs) ≡ rs
-unfolding recordsOf wordsOf
-records-back [] = refl
-records-back (r ∷ rs) = rw (kind-back (r .kind), records-back rs)
-
-pub words-flat : (rs : List Record) → isFlat (wordsOf rs) ≡ true
-unfolding isFlat wordsOf
-words-flat [] = refl
-words-flat (r ∷ rs) = rw (kind-below (r .kind), words-flat rs)
+pub records-have-words : (rs : List Record) → (ws : List ℕ) × (isFlat ws ≡ true) × (recordsOf ws ≡ rs)
+unfolding isFlat recordsOf
+records-have-words [] = ([], refl, refl)
+records-have-words (r ∷ rs) =
+    let (ws, flat, back) = records-have-words rs in
+    let (kind, below) = kind-back (r .kind) in
+    (kindWord (r .kind) ∷ r .task ∷ r .other ∷ r .start ∷ r .length ∷ ws, rw (below, flat), rw (kind, back))
 
 pub flat-is-batch : (F : Form) (list : List ℕ) (s : Tables) (rs : List Record) (m k : ℕ)
-    → flatly F list s (wordsOf rs) m k ≡ batched F list s rs m k
+    → (ws : List ℕ) × (flatly F list s ws m k ≡ batched F list s rs m k)
 unfolding flatly
-flat-is-batch F list s rs m k = rw (words-flat rs, records-back rs)
+flat-is-batch F list s rs m k = let (ws, flat, back) = records-have-words rs in (ws, rw (flat, back))
 
 -- ---- a worked text
 

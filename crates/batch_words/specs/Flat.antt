@@ -1,10 +1,9 @@
 -- The batch in flat words. Paper: 02, 2/13, for callers that know numbers alone.
 --
---   kindOf k, kindWord c     the kind that the word k stands for, and the word of the kind c
+--   kindOf k                 the kind that the word k stands for
 --   recordBy k t o a n       the record of five words
 --   recordIn ws i            the record whose words begin at i
 --   recordsOf ws             the records that the words stand for
---   wordsOf rs               the words of records
 --   isFlat ws                the words are whole records, each of one of the five kinds
 --   calledNumber c           the answer to a call as a number: its refusal, or 0
 --   flatly F list s ws m k   the outcome of a call by words: refused by 1 if they are no records, else that of the
@@ -45,17 +44,6 @@ recordsOf (k ∷ t ∷ []) = []
 recordsOf (k ∷ t ∷ o ∷ []) = []
 recordsOf (k ∷ t ∷ o ∷ a ∷ []) = []
 recordsOf (k ∷ t ∷ o ∷ a ∷ n ∷ ws) = recordBy k t o a n ∷ recordsOf ws
-
-unfoldable pub kindWord : Kind → ℕ
-kindWord New = 0
-kindWord Set = 1
-kindWord Get = 2
-kindWord Async = 3
-kindWord End = 4
-
-unfoldable pub wordsOf : List Record → List ℕ
-wordsOf [] = []
-wordsOf (r ∷ rs) = kindWord (r .kind) ∷ r .task ∷ r .other ∷ r .start ∷ r .length ∷ wordsOf rs
 
 unfoldable pub isFlat : List ℕ → Bool
 isFlat [] = true
