@@ -11,7 +11,6 @@ use Rattle.rules.specs.Refusals.{first, differs, entryRefusal, firstBad}
 use Rattle.rules.specs.Steps.{given, awaits, walk, pairs, followed, got, guarded, started}
 use Rattle.answer_words.specs.AnswerWords.{answerWords}
 use Rattle.step_kinds.specs.Kinds.{shapeOf, takesList}
-use Rattle.steps.specs.Named.{stepBy}
 use Rattle.batch.specs.Batches.{oneByOne, lastTables, allAnswers, allWords, hasRoom, called, batched}
 use Rattle.batch.specs.WorkedBatch.{workedList, workedRecords, workedOutcome}
 use Rattle.batch.specs.declared.Called.the-variants.{Refused}
@@ -19,7 +18,7 @@ use Rattle.batch.specs.declared.Called.the-variants.{Refused}
 pub worked-batch : batched small workedList (fresh 3 4) workedRecords 150 60 ≡ workedOutcome
 unfolding sizesInBounds sizesFit inBounds allBelow is places changed hop comes taskPasses promisePasses soundTest
     laid first differs entryRefusal firstBad given awaits walk pairs followed got guarded started
-    answerWords stepBy shapeOf takesList oneByOne lastTables allAnswers allWords hasRoom called refusedWith
+    answerWords shapeOf takesList oneByOne lastTables allAnswers allWords hasRoom called refusedWith
     refusedAtWith
 worked-batch = refl
 

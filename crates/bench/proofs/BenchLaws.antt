@@ -25,7 +25,7 @@ use Rattle.line_serving.proofs.Theorems.{last-is-last}
 use Rattle.bench.specs.declared.State.{State}
 use Rattle.bench.specs.declared.Ran.{Ran}
 use Rattle.bench.specs.Carrying.{SameLine, wrapped, PutOut, Waiting, At, Fed}
-use Rattle.bench.specs.Running.{none, more, Reached, mostReads}
+use Rattle.bench.specs.Running.{none, more, RanTo, mostReads}
 
 -- ---- what waits in the output array
 
@@ -241,7 +241,7 @@ opening-at s x o l e₁ e₂ e₃ e₄ e₅ e₆ = record {
 pub reached-start : (r : Ran) (x o : List ℕ) → length x ≡ longestLine
     → (r .state .have ≡ 0) × (r .state .lines ≡ 0) × (r .state .session ≡ Unopened) × (r .state .used ≡ 0)
     × (r .state .put ≡ 0) × (r .state .going ≡ true) × (r .state .open ≡ true) × (r .reads ≡ 0) × (r .ended ≡ false)
-    → Reached r x zeroTables (replicate lineReport 0) o
+    → RanTo r x zeroTables (replicate lineReport 0) o
 reached-start r x o l e = record {
   input = [];
   blocks = 0;
@@ -252,7 +252,7 @@ reached-start r x o l e = record {
 }
 
 module _ (was r : Ran) (s : State) (x : List ℕ) (st : Tables) (rs o x′ : List ℕ) (st′ : Tables) (rs′ o′ : List ℕ)
-    (e : was .ended ≡ false) (h : Reached was x st rs o) (one : r .reads ≡ was .reads + 1)
+    (e : was .ended ≡ false) (h : RanTo was x st rs o) (one : r .reads ≡ was .reads + 1)
     (up : s .open ≡ true → was .state .open ≡ true) (l : s .used ≤ length o′) (p : PutOut s (r .state)) where
   reads-before : was .reads ≡ h .blocks
   reads-before = let z : was .reads ≡ h .blocks + 0 = rw e at (h .reads) in omega arith
@@ -263,7 +263,7 @@ module _ (was r : Ran) (s : State) (x : List ℕ) (st : Tables) (rs o x′ : Lis
   -- a block came
   pub reached-block : (b : List ℕ) → 0 < length b → r .ended ≡ false
       → ((d : Desk) → s .open ≡ true → At d (was .state) x st rs o → At (feed d b) s x′ st′ rs′ o′)
-      → Reached r x′ st′ rs′ o′
+      → RanTo r x′ st′ rs′ o′
   reached-block b k f a = record {
     input = h .input ++ b;
     blocks = suc (h .blocks);
@@ -278,7 +278,7 @@ module _ (was r : Ran) (s : State) (x : List ℕ) (st : Tables) (rs o x′ : Lis
   -- the end came
   pub reached-end : r .ended ≡ true
       → ((d : Desk) → s .open ≡ true → At d (was .state) x st rs o → At (ended d) s x′ st′ rs′ o′)
-      → Reached r x′ st′ rs′ o′
+      → RanTo r x′ st′ rs′ o′
   reached-end f a = record {
     input = h .input;
     blocks = h .blocks;

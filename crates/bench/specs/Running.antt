@@ -2,7 +2,7 @@
 --
 --   Came k s             k reads brought the bytes s, each of them some
 --   deskAfter e s        the desk after the input s; e says that its end came
---   Reached r x st rs o  the run so far, with this line buffer, these tables, this report and this output array
+--   RanTo r x st rs o  the run so far, with this line buffer, these tables, this report and this output array
 --   Runs r x st rs o     the whole run: where it stops
 --   mostReads            how often the program reads
 -- A read that fails is the end of the input. What a read brings and what becomes of what is handed to write no contract
@@ -27,7 +27,7 @@ abbrev pub deskAfter : Bool → List ℕ → Desk
 deskAfter e s = cond e (ended (feed opening s)) (feed opening s)
 
 -- the read that brings nothing is one more; nothing waits in the output array
-pub record Reached (r : Ran) (x : List ℕ) (st : Tables) (rs o : List ℕ) : Type 0 where
+pub record RanTo (r : Ran) (x : List ℕ) (st : Tables) (rs o : List ℕ) : Type 0 where
   pub input : List ℕ
   pub blocks : ℕ
   pub came : Came blocks input
@@ -41,5 +41,5 @@ mostReads = 18446744073709551615
 
 -- it stops at the input's end, after `full`, where the output is closed, and after so many reads
 pub record Runs (r : Ran) (x : List ℕ) (st : Tables) (rs o : List ℕ) : Type 0 where
-  pub reached : Reached r x st rs o
+  pub reached : RanTo r x st rs o
   pub stops : r .ended ≡ false → r .state .going ≡ true → r .state .open ≡ true → r .reads ≡ mostReads

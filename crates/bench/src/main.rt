@@ -16,7 +16,7 @@ ghost use Rattle.rules.specs.Tables.{tables as tablesOf};
 ghost use Rattle.line_session.specs.declared.Session.the-variants.{Unopened};
 ghost use Rattle.line_serving.specs.Input.{Desk, feed, ended, zeroTables};
 ghost use Rattle.bench.specs.Carrying.{SameLine, PutOut, Waiting, At, Fed};
-ghost use Rattle.bench.specs.Running.{Reached, Runs, mostReads};
+ghost use Rattle.bench.specs.Running.{RanTo, Runs, mostReads};
 
 // Where the program is: the place in the block, how many bytes of the line that has begun were counted, how many lines
 // were answered, the session value, how many bytes wait in the output array, how many were handed to write before them,
@@ -243,9 +243,9 @@ fn read_on(
     requires { ⌜ (was .state .used ≤ length (now out)) × (length (now out) ≡ 32768) × (was .reads < mostReads) ⌝ }
     ensures { λ r. ⌜ (r .reads ≡ was .reads + 1) × (r .state .used ≡ 0) ⌝ }
     ensures { λ r. ⌜ (was .ended ≡ false
-        → Reached was (now (line .entry)) (tablesOf (now (tasks .entry)) (now (promises .entry)))
+        → RanTo was (now (line .entry)) (tablesOf (now (tasks .entry)) (now (promises .entry)))
         (now (report .entry)) (now (out .entry))
-        → Reached r (now (line .exit)) (tablesOf (now (tasks .exit)) (now (promises .exit))) (now (report .exit))
+        → RanTo r (now (line .exit)) (tablesOf (now (tasks .exit)) (now (promises .exit))) (now (report .exit))
         (now (out .exit))) ⌝ }
 {
     let got = libc::read(0, block);

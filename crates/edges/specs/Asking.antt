@@ -2,7 +2,7 @@
 --
 --   takesNumbers h n   a step of the shape h takes n numbers, those of its list among them
 --   askedBy w vs       what the keyword w and the numbers vs ask for
---   askedOf s vs       what the word s and the numbers vs ask for
+--   asksFor s vs       what the word s and the numbers vs ask for
 -- Assumes nothing.
 use Prim.Native.Nat.{ℕ}
 use mathlib.Core.List.{List}
@@ -29,5 +29,5 @@ askedBy K.Open vs = Unknown
 askedBy (K.Step k) vs = cond (takesNumbers (shapeOf k) (length vs)) (Step k (getD vs 0 0) (getD vs 1 0)) Unknown
 askedBy (K.Other n) vs = Unknown
 
-abbrev pub askedOf : List ℕ → List ℕ → Asked
-askedOf s vs = askedBy (keywordOf s) vs
+abbrev pub asksFor : List ℕ → List ℕ → Asked
+asksFor s vs = askedBy (keywordOf s) vs

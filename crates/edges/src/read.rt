@@ -12,7 +12,7 @@ ghost use Prim.Native.Nat.{_+_, _≤_};
 ghost use mathlib.Core.Path.{_≡_};
 ghost use lib.ListN.{length, drop};
 ghost use Rattle.text_fields.specs.Fields.{endFrom};
-ghost use Rattle.edges.specs.Asking.{takesNumbers, askedOf};
+ghost use Rattle.edges.specs.Asking.{takesNumbers, asksFor};
 
 // What a case asks for: a step, by its kind and its first two numbers, or nothing that there is. A step's list stands
 // beside it.
@@ -149,7 +149,7 @@ fn takes_numbers(shape: Shape, n: usize) -> bool
 
 // What the word and the numbers ask for.
 pub fn step_of(word: &[u8], values: &[u16]) -> Asked
-    ensures { λ r. ⌜ r ≡ askedOf (now (word .entry)) (now (values .entry)) ⌝ }
+    ensures { λ r. ⌜ r ≡ asksFor (now (word .entry)) (now (values .entry)) ⌝ }
 {
     match keyword_of(word) {
         Keyword::Open => Asked::Unknown,

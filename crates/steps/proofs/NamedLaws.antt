@@ -11,7 +11,7 @@ use Rattle.steps.specs.Named.{stepBy}
 
 -- a kind that takes no list is the same step with any
 pub stepBy-plain : (k : Kind) (t p : ℕ) (l m : List ℕ) → takesList (shapeOf k) ≡ false → stepBy k t p l ≡ stepBy k t p m
-unfolding stepBy shapeOf takesList
+unfolding shapeOf takesList
 stepBy-plain New t p l m h = refl
 stepBy-plain Set t p l m h = refl
 stepBy-plain Get t p l m h = refl

@@ -9,7 +9,7 @@ use Rattle.step_kinds.specs.declared.Kind.{Kind}
 use Rattle.step_kinds.specs.declared.Kind.the-variants.{New, Set, Get, Async, End}
 use Rattle.rules.specs.Steps.{Step, step-new, step-set, step-get, step-async, step-end}
 
-unfoldable pub stepBy : Kind → ℕ → ℕ → List ℕ → Step
+abbrev pub stepBy : Kind → ℕ → ℕ → List ℕ → Step
 stepBy New t p l = step-new t p
 stepBy Set t p l = step-set t p
 stepBy Get t p l = step-get t p

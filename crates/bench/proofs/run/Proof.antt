@@ -8,7 +8,7 @@ use lib.ListN.{length}
 use borrow.Author.Needs.{needs}
 use native.Mathlib.Omega.{arith}
 use Rattle.rules.specs.Tables.{tables}
-use Rattle.bench.specs.Running.{Reached, mostReads}
+use Rattle.bench.specs.Running.{RanTo, mostReads}
 use Rattle.bench.proofs.BenchLaws.{reached-start, reads-more, reads-all}
 use Rattle.bench.proofs.run.Statement.{statement}
 use Rattle.bench.proofs.run.Tie as tie
@@ -23,7 +23,7 @@ Inv-loop block₀ line₀ tasks₀ promises₀ report₀ out₀ ran₀ block lin
     × (length out ≡ length out₀)
     × (ran .state .used ≡ 0)
     × (ran .reads ≤ mostReads)
-    × Reached ran line (tables tasks promises) report out
+    × RanTo ran line (tables tasks promises) report out
 
 abbrev μ-loop : tie.MeasureT-loop
 μ-loop block₀ line₀ tasks₀ promises₀ report₀ out₀ ran₀ block line tasks promises report out ran = mostReads - ran .reads

@@ -1,7 +1,6 @@
 -- `steps::raw` meets its contract: each kind goes to the function of its step. Assumes nothing.
 use Rattle.words.specs.Words.{small}
 use Rattle.rules.proofs.BoundsLaws.{inBounds-sizes}
-use Rattle.steps.specs.Named.{stepBy}
 use borrow.Author.Needs.{needs}
 use Rattle.steps.proofs.raw.Statement.{statement}
 use Rattle.steps.proofs.raw.Tie as tie
@@ -47,7 +46,6 @@ same-length-2 : tie.Need-same-length-2
 same-length-2 c = search needs
 
 returns : tie.Need-returns
-unfolding stepBy
 returns c =
     let done = c .before .before in
     rw (done .before .before .before .enum-told .given .1) (done .raw-new .ensures _)
@@ -62,7 +60,6 @@ same-length-5 : tie.Need-same-length-5
 same-length-5 c = search needs
 
 returns-2 : tie.Need-returns-2
-unfolding stepBy
 returns-2 c =
     let done = c .before .before .before .before .before .before in
     rw (done .before .before .before .before .enum-told2 .given .1) (done .raw-set .ensures)
@@ -77,7 +74,6 @@ same-length-8 : tie.Need-same-length-8
 same-length-8 c = search needs
 
 returns-3 : tie.Need-returns-3
-unfolding stepBy
 returns-3 c =
     let done = c .before .before .before .before in
     rw (done .before .before .before .before .enum-told3 .given .1) (done .raw-get .ensures)
@@ -89,7 +85,6 @@ same-length-10 : tie.Need-same-length-10
 same-length-10 c = search needs
 
 returns-4 : tie.Need-returns-4
-unfolding stepBy
 returns-4 c =
     let done = c .before .before .before .before in
     rw (done .before .before .before .enum-told4 .given .1) (done .raw-async .ensures _)
@@ -104,7 +99,6 @@ same-length-13 : tie.Need-same-length-13
 same-length-13 c = search needs
 
 returns-5 : tie.Need-returns-5
-unfolding stepBy
 returns-5 c =
     let done = c .before .before .before .before .before .before in
     rw (done .before .before .before .before .enum-told5 .given .1) (done .raw-end .ensures)
