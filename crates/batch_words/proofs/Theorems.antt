@@ -26,7 +26,7 @@ flat-unique g h = (
 
 -- ---- any records have words that stand for them, and a call by these is the call by the records
 
-kindWord : Kind → ℕ
+abbrev kindWord : Kind → ℕ
 kindWord New = 0
 kindWord Set = 1
 kindWord Get = 2
