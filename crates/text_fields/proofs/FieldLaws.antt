@@ -3,14 +3,14 @@
 -- Assumes nothing.
 use Prim.Native.Nat.{ℕ, suc, _+_, _-_, _≤_, _<_}
 use mathlib.Core.List.{List, [], _∷_, _++_}
-use mathlib.Core.Path.{_≡_, refl, ap, _∙_}
+use mathlib.Core.Path.{_≡_, refl, sym, ap, _∙_}
 use mathlib.Core.Bool.{Bool, true, false}
 use lib.Dec.{eqb}
 use native.Mathlib.Omega.{arith}
 use native.Mathlib.Numerals.{add-one}
 use borrow.Author.Tests.{eq-eqb, ne-eqb, eqb-true, lt-ltb, le-ltb}
 use lib.ListN.{length, take, drop, getD, length-drop, drop-of-length-le}
-use lib.Seq.{drop-cons, length-take-le, take-append-seam, drop-append-seam}
+use lib.Seq.{drop-cons, drop-drop, length-take-le, take-append-seam, drop-append-seam}
 use Rattle.text_fields.specs.Fields.{tab, runTo, endFrom, runToTab, fieldEnd, fieldAt, nextStart, partStart}
 
 -- ---- runs, at a place of a line
@@ -166,3 +166,19 @@ nextStart-past s a h = rw (lt-ltb (length s) a h)
 pub nextStart-is : (s : List ℕ) (a : ℕ) → a ≤ length s → nextStart s a ≡ fieldEnd s a + 1
 unfolding nextStart
 nextStart-is s a h = rw (le-ltb (length s) a h)
+
+-- from the end of a field on, the next one starts where it does from the field's start on
+fieldEnd-end : (s : List ℕ) (a : ℕ) → fieldEnd s (fieldEnd s a) ≡ fieldEnd s a
+unfolding fieldEnd endFrom
+fieldEnd-end s a =
+    let z : runToTab (drop (a + runToTab (drop a s)) s) ≡ 0 =
+    ap runToTab (sym (drop-drop (runToTab (drop a s)) a s)) ∙ runToTab-afterField (drop a s) in
+    omega (arith, z)
+
+pub nextStart-end : (s : List ℕ) (a : ℕ) {f : List ℕ} {n : ℕ} → a ≤ length s → f ≡ fieldAt s a
+    → n ≡ nextStart s (a + length f) → n ≡ nextStart s a
+nextStart-end s a {f} {n} h e q =
+    let k : a + length f ≡ fieldEnd s a = ap (λ (g : List ℕ). a + length g) e ∙ fieldAt-length s a in
+    let (from, within) = fieldEnd-bounds s a (fieldEnd s a) refl h in
+    q ∙ ap (nextStart s) k ∙ nextStart-is s (fieldEnd s a) within ∙ ap (λ (x : ℕ). x + 1) (fieldEnd-end s a)
+    ∙ sym (nextStart-is s a h)

@@ -38,8 +38,9 @@ pub fn number_at(line: &[u8], a: usize) -> Numbered
     if line.len() < a {
         return Numbered::Bad(line.len());
     }
-    match text_numbers::number(text_reader::field_from(line, a)) {
-        Num::Is(v) => Numbered::Is(v, text_reader::next_from(line, a)),
+    let field = text_reader::field_from(line, a);
+    match text_numbers::number(field) {
+        Num::Is(v) => Numbered::Is(v, text_reader::next_from(line, a + field.len())),
         Num::Bad(k) => Numbered::Bad(a + k),
     }
 }
@@ -111,7 +112,7 @@ pub fn record_of(line: &[u8]) -> LineRecord
     ensures { λ r. ⌜ r ≡ recordOf (now (line .entry)) ⌝ }
 {
     let word = text_reader::field_from(line, 0);
-    let next = text_reader::next_from(line, 0);
+    let next = text_reader::next_from(line, word.len());
     match text_keywords::keyword_of(word) {
         Keyword::Open => match last_pair(line, next) {
             NumberPair::Is(x, y, _) => LineRecord::Open(x, y),

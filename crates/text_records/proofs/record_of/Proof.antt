@@ -2,8 +2,12 @@
 -- `afterWord` for that word.
 -- Assumes nothing.
 use mathlib.Core.List.{List}
-use Prim.Native.Nat.{ℕ}
-use mathlib.Core.Path.{_≡_, sym, _∙_}
+use Prim.Native.Nat.{ℕ, _+_}
+use mathlib.Core.Path.{_≡_, sym, ap, _∙_}
+use native.Mathlib.Omega.{arith}
+use lib.ListN.{length}
+use Rattle.text_fields.specs.Fields.{nextStart}
+use Rattle.text_fields.proofs.FieldLaws.{nextStart-end}
 use Rattle.text_keywords.specs.declared.Keyword.{Keyword}
 use Rattle.text_records.specs.Records.{ofPair, afterWord, recordOf}
 use Rattle.text_records.proofs.RecordLaws.{recordOf-by}
@@ -15,13 +19,19 @@ use Rattle.text_records.proofs.record_of.Tie as tie
 abbrev lent : tie.After-keyword-of → List ℕ
 lent c = c .before .before .before .before .args .line .now
 
+-- a place counted from the line's start
+zero-on : (s f : List ℕ) {n : ℕ} → n ≡ nextStart s (length f) → n ≡ nextStart s (0 + length f)
+zero-on s f e = e ∙ ap (nextStart s) (omega arith)
+
 -- after the word, whichever it is
 by : (c : tie.After-keyword-of) {v : Keyword} → c .keyword-of .result ≡ v
     → recordOf (lent c) ≡ afterWord (lent c) (c .before .next-from .result) v
 by c told =
     let next = c .before in
-    recordOf-by _ _ _ _ _ (next .before .field-from .ensures .bytes) (next .next-from .ensures)
-    (c .keyword-of .ensures) told
+    let bytes = next .before .field-from .ensures .bytes in
+    let word = next .before .field-from .result .now in
+    let start = nextStart-end (lent c) 0 (omega arith) bytes (zero-on (lent c) word (next .next-from .ensures)) in
+    recordOf-by _ _ _ _ _ bytes start (c .keyword-of .ensures) told
 
 field-from-requires : tie.Need-field-from-requires
 field-from-requires c κs = search needs
