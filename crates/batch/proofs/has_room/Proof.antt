@@ -3,7 +3,7 @@ use Prim.Native.Nat.{_≤_}
 use mathlib.Core.Bool.{true}
 use mathlib.Core.Path.{_≡_, sym, _∙_}
 use native.Mathlib.Nat.{mul-le-mul}
-use Rattle.words.specs.Words.{small, sizesInBounds}
+use Rattle.words.specs.Words.{small, sizesInBounds, roomFor}
 use Rattle.words.proofs.WordLaws.{sizesInBounds-true}
 use Rattle.batch.proofs.BatchLaws.{room-no-sizes, room-too-many, room-rest}
 use native.Mathlib.Omega.{arith}
@@ -31,7 +31,8 @@ room-for-requires c κs = fits c
 mul-reported : tie.Need-mul-reported
 mul-reported c =
     let b = sizesInBounds-true small _ _ (fits (c .before)) in
-    let h : c .room-for .result ≤ 384 = omega (arith, c .room-for .ensures, b .tasks, b .promises) in
+    let h : c .room-for .result ≤ roomFor (small .mostTasks) (small .mostPromises) =
+    omega (arith, c .room-for .ensures, b .tasks, b .promises) in
     omega (arith, mul-le-mul (c .before .before .before .if1 .left) h)
 
 mul-answered : tie.Need-mul-answered
