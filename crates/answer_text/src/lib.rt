@@ -76,9 +76,6 @@ fn add_list(
         (now (out .exit)) r ⌝ }
 {
     let e = add_field(out, at, count);
-    if words == 0 {
-        return e;
-    }
     text_writers::add_part(out, e, report, from, words)
 }
 

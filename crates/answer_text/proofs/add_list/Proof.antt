@@ -1,5 +1,4 @@
--- `answer_text::add_list` meets its contract: the words of the report follow the count (`added-added`), where there are
--- any.
+-- `answer_text::add_list` meets its contract: the words of the report follow the count (`added-added`).
 -- Assumes nothing.
 use mathlib.Core.List.{[], _∷_}
 use Rattle.answer_text.proofs.AnswerLaws.{fieldsText-append, added-added}
@@ -10,22 +9,16 @@ use Rattle.answer_text.proofs.add_list.Tie as tie
 add-field-requires : tie.Need-add-field-requires
 add-field-requires c κs = search needs
 
+add-part-requires : tie.Need-add-part-requires
+add-part-requires c κs = search needs
+
 same-length : tie.Need-same-length
 same-length c = search needs
 
 returns : tie.Need-returns
-returns c = rw (c .if1 .taken) (c .before .before .before .add-field .ensures)
-
-add-part-requires : tie.Need-add-part-requires
-add-part-requires c κs = search needs
-
-same-length-2 : tie.Need-same-length-2
-same-length-2 c = search needs
-
-returns-2 : tie.Need-returns-2
-returns-2 c =
+returns c =
     let words = c .before .before in
-    let count = words .before .before .before .before .before in
+    let count = words .before .before .before .before in
     let start = count .before .before .before .before in
     rw (fieldsText-append (start .args .count ∷ []))
     (added-added (count .add-field .ensures) (words .add-part .ensures))
@@ -33,4 +26,8 @@ returns-2 c =
 pub add-list-spec : {M : Type 1} → statement M
 add-list-spec =
     tie.close
-    (tie.spec add-field-requires same-length returns add-part-requires same-length-2 returns-2)
+    (tie.spec
+    add-field-requires
+    add-part-requires
+    same-length
+    returns)
