@@ -19,7 +19,7 @@ use Rattle.rules.specs.Tables.{Tables, taskAt, promiseAt, live, Live, wa
 use Rattle.rules.specs.Chains.{Chain, here, link, Comes, WaitsFor, view, awaitedBy}
 use Rattle.rules.specs.Chains as chains
 use Rattle.rules.specs.Sound.{TaskWord, unused, ready, ended, waits, PromiseWord, unmade, done, owned, blamed}
-use Rattle.rules.specs.Sound.{Sound, comesInTime, taskPasses, promisePasses, soundTest}
+use Rattle.rules.specs.Sound.{Sound, comes, comesInTime, taskPasses, promisePasses, soundTest}
 use Rattle.rules.proofs.BoundsLaws.{live-ready, live-waits}
 use Rattle.rules.proofs.GraphLaws.{on-chain, no-dup}
 use Rattle.rules.proofs.Moves.{det}
@@ -36,6 +36,13 @@ chain-bound s {v} {l} c =
         → Live (taskAt s x)
     go x (inl e) = live-ready (taskAt s x) e
     go x (inr k) = live-waits (taskAt s x) (omega (arith, k .2 .waits))
+
+-- a chain that is found with any fuel is found with as much as there are tasks
+pub comes-in-time : (s : Tables) (n v : ℕ) → comes n (length (s .tasks)) (view s) v ≡ true → comesInTime s v ≡ true
+comes-in-time s n v e =
+    let (l, c) = comes-chain (length (s .tasks)) (view s) n v e in
+    chain-comes (length (s .tasks)) (view s) (length (s .tasks)) c
+    (omega (arith, chain-bound s c, count-le live (s .tasks)))
 
 -- ---- what the tests of one word say
 

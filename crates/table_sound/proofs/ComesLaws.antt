@@ -26,20 +26,3 @@ module _ (T : ℕ) (s : View) (v n : ℕ) where
   pub comes-on : (u : ℕ) → 0 < n → hop T s v ≡ to u → comes n T s v ≡ comes (n - 1) T s u
   unfolding comes
   comes-on u h f = let e : suc (n - 1) ≡ n = omega arith in ap (λ (m : ℕ). comes m T s v) (sym e) ∙ rw f
-
--- `good` says whether every number below i passes, of the n to be tested
-pub record Tested (f : ℕ → Bool) (n : ℕ) (good : Bool) (i : ℕ) : Type 0 where
-  pub within : i ≤ n
-  pub below : good ≡ allBelow i f
-
-module _ (f : ℕ → Bool) (n : ℕ) where
-  pub tested-start : Tested f n true 0
-  unfolding allBelow
-  tested-start = record { within = omega arith; below = refl }
-
-  pub tested-turn : {good now : Bool} {i : ℕ} → Tested f n good i → i < n → now ≡ f i → Tested f n (good && now) (i + 1)
-  unfolding allBelow
-  tested-turn t h e = record { within = omega arith; below = rw (add-one, t .below, e) }
-
-  pub tested-end : {good : Bool} {i : ℕ} → Tested f n good i → n ≤ i → good ≡ allBelow n f
-  tested-end {i = i} t h = let e : i ≡ n = omega (arith, t .within) in t .below ∙ ap (λ (k : ℕ). allBelow k f) e

@@ -12,10 +12,10 @@ use lib.Dec.{eqb}
 use borrow.Author.Tests.{eq-eqb, ne-eqb, eqb-true}
 use lib.ListN.{length, getD, set, drop, length-map, List·getD-map, List·getD-eq-default, drop-of-length-le}
 use lib.ListN.{length-append, length-drop}
-use lib.Seq.{drop-cons, sets, sets-eq, getD-set-other}
+use lib.Seq.{drop-cons, sets, sets-eq, getD-set-same, getD-set-other}
 use Rattle.words.specs.Lists.{allBelow, is, places, changed, replaced, count, over, In, top, pop, Rising, none}
 use Rattle.words.specs.Lists.{one, more}
-use Rattle.words.proofs.BoolLaws.{and-yes, and-split, and-false, or-split, cond-true, cond-false}
+use Rattle.words.proofs.BoolLaws.{and-yes, and-split, and-false, and-swap, or-split, cond-true, cond-false}
 use Rattle.words.proofs.BoolLaws.{true-is-not-false}
 
 -- ---- allBelow
@@ -50,6 +50,17 @@ allBelow-fails f i zero h p = absurd (omega arith)
 allBelow-fails f i (suc n) h p =
     ⊎-elim (λ (q : i ≡ n). rw (← q, p) (and-false (allBelow i f))) (λ (q : i < n). rw (allBelow-fails f i n q p))
     (eq-or-lt-of-le (le-of-suc-le-suc h))
+
+-- tests that agree on each number, and two tests in one
+pub allBelow-same : (n : ℕ) (f g : ℕ → Bool) → ((i : ℕ) → i < n → f i ≡ g i) → allBelow n f ≡ allBelow n g
+unfolding allBelow
+allBelow-same zero f g h = refl
+allBelow-same (suc n) f g h = rw (allBelow-same n f g (λ i z. h i (omega arith)), h n (omega arith))
+
+pub allBelow-and : (n : ℕ) (f g : ℕ → Bool) → allBelow n (λ i. f i && g i) ≡ (allBelow n f && allBelow n g)
+unfolding allBelow
+allBelow-and zero f g = refl
+allBelow-and (suc n) f g = rw (allBelow-and n f g) (and-swap (allBelow n f) (allBelow n g) (f n) (g n))
 
 -- ---- is, changed, replaced
 
@@ -125,6 +136,18 @@ unfolding mapped
 mapped-length f zero xs = refl
 mapped-length f (suc i) [] = refl
 mapped-length f (suc i) (x ∷ xs) = ap suc (mapped-length f i xs)
+
+-- ---- a store
+
+-- what holds of the word stored and of each other word holds of each word after it
+pub set-each : {A : Type 0} (P : ℕ → A → Type 0) (l : List A) (i : ℕ) (a d : A) → i < length l → P i a
+    → ((j : ℕ) → j ≢ i → P j (getD l j d)) → (j : ℕ) → P j (getD (set l i a) j d)
+set-each {A} P l i a d h new old j = go (ℕ-discrete j i)
+  where
+    go : Dec (j ≡ i) → P j (getD (set l i a) j d)
+    go (yes e) =
+        subst (λ (k : ℕ). P k (getD (set l i a) k d)) (sym e) (subst (P i) (sym (getD-set-same l i a d h)) new)
+    go (no n) = subst (P j) (sym (getD-set-other l i j a d n)) (old j n)
 
 -- ---- places
 

@@ -1,16 +1,17 @@
 -- What a loop through a table holds after i turns, over any test and any change of a word: a law for the start, a turn
 -- and the end. Assumes nothing.
 use Prim.Native.Nat.{ℕ, _+_, _-_, _≤_, _<_}
-use mathlib.Core.Path.{_≡_, refl, ap, _∙_}
+use mathlib.Core.Path.{_≡_, refl, sym, ap, _∙_}
 use mathlib.Core.List.{List, [], _∷_, map}
-use mathlib.Core.Bool.{Bool, true, false}
+use mathlib.Core.Bool.{Bool, true, false, _&&_}
 use native.Mathlib.Omega.{arith}
+use native.Mathlib.Decide.{ℕ-discrete}
 use native.Mathlib.Numerals.{add-one}
 use lib.ListN.{length, getD, set, drop, replicate, length-set}
 use lib.Seq.{sets}
-use Rattle.words.specs.Lists.{places}
+use Rattle.words.specs.Lists.{allBelow, places}
 use Rattle.words.proofs.ListLaws.{mapped, mapped-none, mapped-more, mapped-get, mapped-all, places-step}
-use Rattle.words.proofs.ListLaws.{places-end}
+use Rattle.words.proofs.ListLaws.{places-end, allBelow-make}
 
 -- ---- a loop that rewrites each word by g
 
@@ -91,3 +92,42 @@ module _ (f : ℕ → Bool) where
   collected-end {ws} {before} {now} {from} {i} {n} c h =
       let e = places-end f ws i h in
       rw (c .counted, c .written, e) (omega arith, refl)
+
+-- ---- a loop that tests each number below n, and the words of a table by them
+
+-- `good` says whether every number below i passes
+pub record Tested (f : ℕ → Bool) (n : ℕ) (good : Bool) (i : ℕ) : Type 0 where
+  pub within : i ≤ n
+  pub below : good ≡ allBelow i f
+
+module _ (f : ℕ → Bool) (n : ℕ) where
+  pub tested-start : Tested f n true 0
+  unfolding allBelow
+  tested-start = record { within = omega arith; below = refl }
+
+  pub tested-turn : {good now : Bool} {i : ℕ} → Tested f n good i → i < n → now ≡ f i → Tested f n (good && now) (i + 1)
+  unfolding allBelow
+  tested-turn t h e = record { within = omega arith; below = rw (add-one, t .below, e) }
+
+  pub tested-end : {good : Bool} {i : ℕ} → Tested f n good i → n ≤ i → good ≡ allBelow n f
+  tested-end {i = i} t h = let e : i ≡ n = omega (arith, t .within) in t .below ∙ ap (λ (k : ℕ). allBelow k f) e
+
+-- a loop that goes down from n: those from i on pass
+pub record TestedFrom (f : ℕ → Bool) (n i : ℕ) : Type 0 where
+  pub within : i ≤ n
+  pub above : (k : ℕ) → i ≤ k → k < n → f k ≡ true
+
+module _ (f : ℕ → Bool) (n : ℕ) where
+  pub testedFrom-start : TestedFrom f n n
+  testedFrom-start = record { within = omega arith; above = λ k a b. absurd (omega arith) }
+
+  pub testedFrom-turn : {i : ℕ} → TestedFrom f n i → 0 < i → f (i - 1) ≡ true → TestedFrom f n (i - 1)
+  testedFrom-turn {i} t h e =
+      record { within = omega (arith, t .within); above = λ k a b. go k b a (ℕ-discrete k (i - 1)) }
+    where
+      go : (k : ℕ) → k < n → i - 1 ≤ k → Dec (k ≡ i - 1) → f k ≡ true
+      go k b a (yes z) = ap f z ∙ e
+      go k b a (no z) = t .above k (omega arith) b
+
+  pub testedFrom-end : {i : ℕ} → TestedFrom f n i → i ≤ 0 → true ≡ allBelow n f
+  testedFrom-end t h = sym (allBelow-make n f (λ k b. t .above k (omega arith) b))

@@ -98,6 +98,9 @@ impl Limit {
 
     pub const PROMISES: usize = 256;
 
+    // The words that a promise may have are below this one: the last of them blames the last task.
+    pub const PROMISE_WORDS: usize = PromiseWord::FIRST_BLAMED as usize + Limit::TASKS;
+
     // The words of a report that has room for every answer.
     pub const REPORT: usize = Limit::PROMISES + 2 * Limit::TASKS;
 

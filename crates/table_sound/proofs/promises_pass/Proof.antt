@@ -5,10 +5,10 @@ use native.Mathlib.Omega.{arith}
 use lib.ListN.{length}
 use borrow.Author.Needs.{needs}
 use Rattle.words.specs.Words.{small}
+use Rattle.words.proofs.LoopLaws.{Tested, tested-start, tested-turn, tested-end}
 use Rattle.words.proofs.Tests.{tests}
 use Rattle.rules.specs.Sound.{promisePasses}
 use Rattle.rules.specs.Tables.{tables}
-use Rattle.table_sound.proofs.ComesLaws.{Tested, tested-start, tested-turn, tested-end}
 use Rattle.table_sound.proofs.promises_pass.Statement.{statement}
 use Rattle.table_sound.proofs.promises_pass.Tie as tie
 

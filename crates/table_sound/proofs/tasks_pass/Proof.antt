@@ -4,10 +4,10 @@ use Prim.Native.Nat.{_-_}
 use native.Mathlib.Omega.{arith}
 use lib.ListN.{length}
 use borrow.Author.Needs.{needs}
+use Rattle.words.proofs.LoopLaws.{Tested, tested-start, tested-turn, tested-end}
 use Rattle.words.proofs.Tests.{tests}
 use Rattle.rules.specs.Sound.{taskPasses}
 use Rattle.rules.specs.Tables.{tables}
-use Rattle.table_sound.proofs.ComesLaws.{Tested, tested-start, tested-turn, tested-end}
 use Rattle.table_sound.proofs.tasks_pass.Statement.{statement}
 use Rattle.table_sound.proofs.tasks_pass.Tie as tie
 
