@@ -1,2 +1,1 @@
-pub mod ComesLaws
-pub mod Theorems
+pub mod TestLaws

@@ -2,8 +2,8 @@
 // closes.
 use table_access::number_at;
 use table_access::put;
-use table_sound::Next;
-use table_sound::hop;
+use table_hops::Next;
+use table_hops::hop;
 use words::PromiseWord;
 use words::TaskWord;
 ghost use mathlib.Core.Path.{_≡_};

@@ -1,6 +1,11 @@
 -- `batch::call_refusal` meets its contract: each return knows which of the two rows applies. Assumes nothing.
 use Rattle.rules.specs.Refusals.{first}
+use mathlib.Core.Path.{sym, _∙_}
 use borrow.Author.Needs.{needs}
+use Rattle.words.specs.Words.{small}
+use Rattle.rules.specs.Tables.{tables}
+use Rattle.rules.proofs.BoundsLaws.{sizesFit-of}
+use Rattle.batch.proofs.BatchLaws.{hasRoom-true}
 use Rattle.batch.proofs.call_refusal.Statement.{statement}
 use Rattle.batch.proofs.call_refusal.Tie as tie
 
@@ -8,7 +13,11 @@ has-room-requires : tie.Need-has-room-requires
 has-room-requires c κs = search needs
 
 tables-pass-requires : tie.Need-tables-pass-requires
-tables-pass-requires c κs = search needs
+tables-pass-requires c κs =
+    let roomy = c .before in
+    let a = roomy .before .before .before .args in
+    sizesFit-of small (tables (a .tasks .now) (a .promises .now))
+    (hasRoom-true small _ _ _ _ _ (sym (roomy .has-room .ensures) ∙ c .if1 .taken) .sizes)
 
 returns : tie.Need-returns
 unfolding first

@@ -1,5 +1,6 @@
 -- `table_sound::is_sound` meets its contract: the sizes are within their bounds, and then the words decide. Assumes
 -- nothing.
+use mathlib.Core.Path.{sym, _∙_}
 use Rattle.rules.specs.Tables.{sizesFit}
 use borrow.Author.Needs.{needs}
 use Rattle.table_sound.proofs.is_sound.Statement.{statement}
@@ -9,7 +10,8 @@ sizes-in-bounds-requires : tie.Need-sizes-in-bounds-requires
 sizes-in-bounds-requires c κs = search needs
 
 tables-pass-requires : tie.Need-tables-pass-requires
-tables-pass-requires c κs = search needs
+unfolding sizesFit
+tables-pass-requires c κs = sym (c .before .sizes-in-bounds .ensures) ∙ c .if1 .taken
 
 returns : tie.Need-returns
 unfolding sizesFit

@@ -1,5 +1,8 @@
 -- `table_sound::table_refusal` meets its contract: each return knows which of the two rows applies. Assumes nothing.
+use mathlib.Core.Path.{sym, _∙_}
 use borrow.Author.Needs.{needs}
+use Rattle.rules.specs.Tables.{tables}
+use Rattle.rules.proofs.BoundsLaws.{inBounds-sizes}
 use Rattle.rules.specs.Refusals.{first}
 use Rattle.table_sound.proofs.table_refusal.Statement.{statement}
 use Rattle.table_sound.proofs.table_refusal.Tie as tie
@@ -8,7 +11,10 @@ in-bounds-requires : tie.Need-in-bounds-requires
 in-bounds-requires c κs = search needs
 
 tables-pass-requires : tie.Need-tables-pass-requires
-tables-pass-requires c κs = search needs
+tables-pass-requires c κs =
+    let a = c .before .before .before .before .args in
+    inBounds-sizes _ _ (tables (a .tasks .now) (a .promises .now))
+    (sym (c .before .in-bounds .ensures) ∙ c .if1 .taken)
 
 returns : tie.Need-returns
 unfolding first

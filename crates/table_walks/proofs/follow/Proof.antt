@@ -9,7 +9,7 @@ use Rattle.words.proofs.Tests.{tests}
 use Rattle.rules.proofs.WalkLaws.{walk-zero, walk-here, walk-ready, walk-lost, walk-on}
 use Rattle.rules.specs.Steps.{walk}
 use Rattle.rules.specs.Chains.{viewOf}
-use Rattle.table_sound.specs.Hops.{hopRead}
+use Rattle.table_hops.specs.Hops.{hopRead}
 use Rattle.table_walks.proofs.follow.Statement.{statement}
 use Rattle.table_walks.proofs.follow.Tie as tie
 

@@ -1,0 +1,2 @@
+pub mod ComesLaws
+pub mod MarkLaws

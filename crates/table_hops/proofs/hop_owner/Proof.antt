@@ -1,0 +1,21 @@
+-- `table_hops::hop_owner` meets its contract: each return knows the two tests of `hopOwner`. Assumes nothing.
+use borrow.Author.Tests.{lt-ltb, le-ltb, le-leb}
+use borrow.Author.Needs.{needs}
+use Rattle.words.proofs.Tests.{tests}
+use Rattle.table_hops.proofs.hop_owner.Statement.{statement}
+use Rattle.table_hops.proofs.hop_owner.Tie as tie
+
+returns : tie.Need-returns
+returns c = search (needs, tests)
+
+wide-requires : tie.Need-wide-requires
+wide-requires c κs = search needs
+
+returns-2 : tie.Need-returns-2
+returns-2 c = rw (← c .before .wide .ensures, le-leb _ _ (c .before .before .if1 .left), lt-ltb _ _ (c .if2 .taken))
+
+returns-3 : tie.Need-returns-3
+returns-3 c = rw (← c .before .wide .ensures, le-leb _ _ (c .before .before .if1 .left), le-ltb _ _ (c .if2 .left))
+
+pub hop-owner-spec : {M : Type 1} → statement M
+hop-owner-spec = tie.close (tie.spec returns wide-requires returns-2 returns-3)
