@@ -77,11 +77,66 @@ fn chains_marked(tasks: &[u16], promises: &[u16], marks: &mut [u16]) -> bool
 }
 
 // The same with marks of its own.
-pub fn chains_pass(tasks: &[u16], promises: &[u16]) -> bool
+fn marked_pass(tasks: &[u16], promises: &[u16]) -> bool
     requires { ⌜ sizesFit small (tables (now tasks) (now promises)) ≡ true ⌝ }
     ensures { λ r. ⌜ r ≡ allBelow (length (now (tasks .entry)))
         (chainPasses (tables (now (tasks .entry)) (now (promises .entry)))) ⌝ }
 {
     let mut marks = [0; Limit::TASKS];
     chains_marked(tasks, promises, &mut marks)
+}
+
+// The live task to which a hop from task `v` leads, and the number of tasks where there is none.
+fn live_owner(tasks: &[u16], promises: &[u16], v: usize) -> usize
+    ensures { λ r. ⌜ (r < length (now (tasks .entry)) →
+        LeadsTo (tables (now (tasks .entry)) (now (promises .entry))) v r) ⌝ }
+{
+    match hop(tasks, promises, v) {
+        Next::To(x) => {
+            let w = at(tasks, x);
+            if (w == TaskWord::READY) | (TaskWord::FIRST_WAIT <= w) {
+                return x;
+            }
+            tasks.len()
+        }
+        _ => tasks.len(),
+    }
+}
+
+// A short way to a yes, where every link leads to a task with a higher number, or every link to one with a lower: so
+// no chain comes back, and each ends.
+fn one_way(tasks: &[u16], promises: &[u16]) -> bool
+    ensures { λ r. ⌜ (r ≡ true → allBelow (length (now (tasks .entry)))
+        (chainPasses (tables (now (tasks .entry)) (now (promises .entry)))) ≡ true) ⌝ }
+{
+    let mut up = true;
+    let mut down = true;
+    let mut v = 0;
+    while v < tasks.len() {
+        if TaskWord::FIRST_WAIT <= tasks[v] {
+            let x = live_owner(tasks, promises, v);
+            if tasks.len() <= x {
+                return false;
+            }
+            up = up & (v < x);
+            down = down & (x < v);
+            if !(up | down) {
+                return false;
+            }
+        }
+        v += 1;
+    }
+    true
+}
+
+// Whether the chain of every waiting task comes to a ready task.
+pub fn chains_pass(tasks: &[u16], promises: &[u16]) -> bool
+    requires { ⌜ sizesFit small (tables (now tasks) (now promises)) ≡ true ⌝ }
+    ensures { λ r. ⌜ r ≡ allBelow (length (now (tasks .entry)))
+        (chainPasses (tables (now (tasks .entry)) (now (promises .entry)))) ⌝ }
+{
+    if one_way(tasks, promises) {
+        return true;
+    }
+    marked_pass(tasks, promises)
 }

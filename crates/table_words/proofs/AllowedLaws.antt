@@ -1,22 +1,24 @@
 -- Laws of specs/Allowed.antt: a task's word by ranges, what a loop that notes has after i turns, and what the filled
 -- look-up table says. Assumes nothing.
-use Prim.Native.Nat.{ℕ, _+_, _-_, _≤_, _<_}
-use mathlib.Core.Path.{_≡_, refl, sym, subst, _∙_}
+use Prim.Native.Nat.{ℕ, suc, _+_, _-_, _≤_, _<_}
+use mathlib.Core.Path.{_≡_, refl, sym, ap, subst, _∙_}
 use mathlib.Core.Logic.{_≢_, _⊎_, inl, inr}
 use mathlib.Core.List.{List, []}
 use mathlib.Core.Bool.{Bool, true, false, cond, _&&_, _||_}
 use native.Mathlib.Omega.{arith}
 use native.Mathlib.Decide.{ℕ-discrete, decLt}
+use native.Mathlib.Numerals.{add-one}
 use lib.Dec.{eqb, leb, ltb}
 use borrow.Author.Tests.{lt-ltb, le-ltb, le-leb, lt-leb, ne-eqb, eq-eqb, eqb-true, leb-true, ltb-true}
 use lib.ListN.{length, getD, set, replicate, length-set, length-replicate, getD-replicate, List·getD-eq-default}
 use Rattle.words.specs.Words.{unusedWord, readyWord, endedWord, firstWait, unmadeWord, setWord, firstOwned}
 use Rattle.words.specs.Lists.{allBelow, is}
-use Rattle.words.proofs.BoolLaws.{and-split, and-false, or-split, true-is-not-false}
+use Rattle.words.proofs.BoolLaws.{and-yes, and-split, and-false, or-split, or-left, or-right, true-is-not-false}
 use Rattle.words.proofs.ListLaws.{set-each, allBelow-same, allBelow-at, allBelow-make}
 use Rattle.rules.specs.Tables.{tables, live}
 use Rattle.rules.specs.Sound.{promiseWordPasses, promisePasses}
 use Rattle.table_words.specs.Allowed.{everyWord, taskWordPasses, below, allowed, noted, Noted, MayHold, Fills}
+use Rattle.table_words.specs.Allowed.{LargestOf, liveAt, notBetween, ownersUpTo, OnlyOwners}
 
 -- ---- a task's word, by ranges
 
@@ -89,6 +91,89 @@ module _ (f : ℕ → Bool) (ts : List ℕ) (from : ℕ) where
       → Noted f ts from before now
   unfolding noted
   noting-end {i = i} r h = λ w. let e : i ≡ length ts = omega (arith, r .within) in rw (← e) (r .each w)
+
+-- ---- the largest word
+
+and-true : (b : Bool) → (b && true) ≡ b
+and-true true = refl
+and-true false = refl
+
+larger-below : (v w n : ℕ) → ltb (cond (ltb v w) w v) n ≡ (ltb v n && ltb w n)
+larger-below v w n = go (decLt v w) (decLt v n) (decLt w n)
+  where
+    go : Dec (v < w) → Dec (v < n) → Dec (w < n) → ltb (cond (ltb v w) w v) n ≡ (ltb v n && ltb w n)
+    go (yes h) (yes a) b = rw (lt-ltb v w h, lt-ltb v n a)
+    go (yes h) (no a) b = rw (lt-ltb v w h, le-ltb v n (omega arith), le-ltb w n (omega arith))
+    go (no h) a (yes b) = rw (le-ltb v w (omega arith), lt-ltb w n b) (sym (and-true (ltb v n)))
+    go (no h) a (no b) = rw (le-ltb v w (omega arith), le-ltb w n (omega arith), le-ltb v n (omega arith))
+
+-- `most` is the largest of the first i words
+pub record Most (ws : List ℕ) (most i : ℕ) : Type 0 where
+  pub within : i ≤ length ws
+  pub largest : (n : ℕ) → 0 < n → allBelow i (λ k. below n (getD ws k 0)) ≡ ltb most n
+
+pub most-start : (ws : List ℕ) → Most ws 0 0
+unfolding allBelow
+most-start ws = record { within = omega arith; largest = λ n h. sym (lt-ltb 0 n h) }
+
+pub most-turn : {ws : List ℕ} {most i m : ℕ} → Most ws most i → i < length ws
+    → m ≡ cond (ltb most (getD ws i 0)) (getD ws i 0) most → Most ws m (i + 1)
+unfolding allBelow below
+most-turn {ws} {most} {i} r h e = record {
+  within = omega arith;
+  largest = λ n z. rw (add-one, r .largest n z, e) (sym (larger-below most (getD ws i 0) n));
+}
+
+pub most-end : {ws : List ℕ} {most i : ℕ} → Most ws most i → length ws ≤ i → LargestOf ws most
+most-end {ws} {most} {i} r h n z =
+    let e : length ws ≡ i = omega (arith, r .within) in
+    ap (λ (k : ℕ). allBelow k (λ j. below n (getD ws j 0))) e ∙ r .largest n z
+
+-- ---- only owners
+
+first-two : (w : ℕ) → w ≤ setWord → (eqb w unmadeWord || eqb w setWord) ≡ true
+first-two w h = go (ℕ-discrete w unmadeWord)
+  where
+    go : Dec (w ≡ unmadeWord) → (eqb w unmadeWord || eqb w setWord) ≡ true
+    go (yes e) = or-left (eqb w unmadeWord) (eqb w setWord) (eq-eqb w unmadeWord e)
+    go (no n) = or-right (eqb w unmadeWord) (eqb w setWord) (eq-eqb w setWord (omega arith))
+
+owner-passes : (B : ℕ) (ts ps : List ℕ) (w : ℕ) → firstOwned ≤ w → w - firstOwned < length ts
+    → live (getD ts (w - firstOwned) 0) ≡ true → promiseWordPasses B (tables ts ps) w ≡ true
+owner-passes B ts ps w h k l =
+    rw (le-leb firstOwned w h, lt-ltb (w - firstOwned) (length ts) k)
+    (second (eqb w unmadeWord || eqb w setWord) (live (getD ts (w - firstOwned) 0))
+    (leb B w && ltb (w - B) (length ts) && eqb (getD ts (w - B) 0) endedWord) l)
+  where
+    second : (a x y : Bool) → x ≡ true → ((a || x) || y) ≡ true
+    second true x y e = refl
+    second false x y e = rw e
+
+pub only-owners : (ts ps : List ℕ) (most : ℕ) → LargestOf ps most → allBelow (ownersUpTo most) (liveAt ts) ≡ true
+    → ownersUpTo most ≤ length ts → everyWord notBetween ps ≡ true → OnlyOwners ts ps
+unfolding promisePasses below liveAt notBetween
+only-owners ts ps most l live-so few no-gap B =
+    allBelow-make (length ps) (promisePasses B (tables ts ps)) (λ q z. passes q z (or-split _ _ (apart q z)))
+  where
+    apart : (q : ℕ) → q < length ps → (leb (getD ps q 0) setWord || leb firstOwned (getD ps q 0)) ≡ true
+    apart q z = allBelow-at (length ps) (λ k. leb (getD ps k 0) setWord || leb firstOwned (getD ps k 0)) no-gap q z
+
+    small : (q : ℕ) → q < length ps → getD ps q 0 < suc most
+    small q z =
+        ltb-true _ _
+        (allBelow-at (length ps) (λ k. ltb (getD ps k 0) (suc most))
+        (l (suc most) (omega arith) ∙ lt-ltb most (suc most) (omega arith)) q z)
+
+    passes : (q : ℕ) → q < length ps
+        → (leb (getD ps q 0) setWord ≡ true) ⊎ (leb firstOwned (getD ps q 0) ≡ true)
+        → promiseWordPasses B (tables ts ps) (getD ps q 0) ≡ true
+    passes q z (inl e) = rw (first-two (getD ps q 0) (leb-true _ _ e))
+    passes q z (inr e) =
+        let h = leb-true firstOwned (getD ps q 0) e in
+        let below-most = small q z in
+        let named : getD ps q 0 - firstOwned < ownersUpTo most = omega arith in
+        owner-passes B ts ps (getD ps q 0) h (omega (arith, named, few))
+        (allBelow-at (ownersUpTo most) (λ t. live (getD ts t 0)) live-so (getD ps q 0 - firstOwned) named)
 
 -- ---- what the filled table says
 

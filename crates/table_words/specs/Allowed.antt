@@ -5,6 +5,11 @@
 --   taskWordPasses P w      w is a word of the task table, where there are P promises
 --   idle w                  a task with the word w does not wait
 --   below n w               w is below n
+--   LargestOf ws r          every word of ws is below n exactly where r is, for n above 0
+--   liveAt ts t             task t is live, where ts are the tasks
+--   notBetween w            w is unmade, set, or not below the first owner
+--   ownersUpTo w            how many tasks there are up to the owner w, if it is one
+--   OnlyOwners ts ps        every word of ps is unmade, set, or a live owner of ts
 --   allowed may w           the look-up table may says that w may stand in the promise table; no word past its end may
 --   noted f ts from b w     what a table that says b of w says of it once it has noted, from the word `from` on, of each
 --                           task of ts whether its word passes f
@@ -13,16 +18,16 @@
 --                           tasks, and no word may stand there yet
 --   Fills B ts may          may says of every word whether it may stand in the promise table, where ts are the tasks
 -- Assumes nothing.
-use Prim.Native.Nat.{ℕ, _+_, _-_, _≤_, _<_}
+use Prim.Native.Nat.{ℕ, suc, _+_, _-_, _≤_, _<_}
 use mathlib.Core.Path.{_≡_}
 use mathlib.Core.List.{List, []}
-use mathlib.Core.Bool.{Bool, false, cond, _&&_, _||_}
+use mathlib.Core.Bool.{Bool, true, false, cond, _&&_, _||_}
 use lib.Dec.{eqb, leb, ltb}
 use lib.ListN.{length, getD, replicate}
-use Rattle.words.specs.Words.{unusedWord, readyWord, endedWord, firstWait, firstOwned}
+use Rattle.words.specs.Words.{unusedWord, readyWord, endedWord, firstWait, setWord, firstOwned}
 use Rattle.words.specs.Lists.{allBelow}
-use Rattle.rules.specs.Tables.{tables, waiting}
-use Rattle.rules.specs.Sound.{promiseWordPasses}
+use Rattle.rules.specs.Tables.{tables, live, waiting}
+use Rattle.rules.specs.Sound.{promiseWordPasses, promisePasses}
 
 abbrev pub everyWord : (ℕ → Bool) → List ℕ → Bool
 everyWord f ws = allBelow (length ws) (λ i. f (getD ws i 0))
@@ -36,6 +41,18 @@ idle w = ltb w firstWait
 
 unfoldable pub below : ℕ → ℕ → Bool
 below n w = ltb w n
+
+abbrev pub LargestOf : List ℕ → ℕ → Type 0
+LargestOf ws r = (n : ℕ) → 0 < n → everyWord (below n) ws ≡ ltb r n
+
+unfoldable pub liveAt : List ℕ → ℕ → Bool
+liveAt ts t = live (getD ts t 0)
+
+unfoldable pub notBetween : ℕ → Bool
+notBetween w = leb w setWord || leb firstOwned w
+
+abbrev pub ownersUpTo : ℕ → ℕ
+ownersUpTo w = suc w - firstOwned
 
 unfoldable pub allowed : List Bool → ℕ → Bool
 allowed may w = getD may w false
@@ -54,3 +71,7 @@ pub record MayHold (B T : ℕ) (may : List Bool) : Type 0 where
 
 abbrev pub Fills : ℕ → List ℕ → List Bool → Type 0
 Fills B ts may = (w : ℕ) → allowed may w ≡ promiseWordPasses B (tables ts []) w
+
+-- whatever the first blamed word is
+abbrev pub OnlyOwners : List ℕ → List ℕ → Type 0
+OnlyOwners ts ps = (B : ℕ) → allBelow (length ps) (promisePasses B (tables ts ps)) ≡ true

@@ -4,15 +4,16 @@ use words::Limit;
 use words::PromiseWord;
 use words::TaskWord;
 ghost use mathlib.Core.Path.{_≡_};
-ghost use mathlib.Core.Bool.{true};
+ghost use mathlib.Core.Bool.{true, cond};
 ghost use Prim.Native.Nat.{_+_, _≤_, _<_};
+ghost use lib.Dec.{ltb};
 ghost use lib.ListN.{length};
 ghost use Rattle.words.specs.Words.{small, endedWord};
 ghost use Rattle.words.specs.Lists.{allBelow, is};
 ghost use Rattle.rules.specs.Tables.{tables, sizesFit, live};
 ghost use Rattle.rules.specs.Sound.{promisePasses};
 ghost use Rattle.table_words.specs.Allowed.{everyWord, taskWordPasses, idle, below, allowed};
-ghost use Rattle.table_words.specs.Allowed.{Noted, MayHold, Fills};
+ghost use Rattle.table_words.specs.Allowed.{Noted, MayHold, Fills, LargestOf, liveAt, notBetween, ownersUpTo, OnlyOwners};
 
 // Whether each task's word is one of these; `promises` is how many promises there are.
 pub fn task_words_pass(tasks: &[u16], promises: usize) -> bool
@@ -43,17 +44,89 @@ pub fn nobody_waits(tasks: &[u16]) -> bool
     good
 }
 
-// Whether each word of the table is below `top`.
-fn all_below(table: &[u16], top: u16) -> bool
-    ensures { λ r. ⌜ r ≡ everyWord (below top) (now (table .entry)) ⌝ }
+// A word as an index.
+fn wide(w: u16) -> usize
+    ensures { λ r. ⌜ r ≡ w ⌝ }
 {
-    let mut good = true;
+    w as usize
+}
+
+// The larger of two words.
+fn larger(v: u16, w: u16) -> u16
+    ensures { λ r. ⌜ r ≡ cond (ltb v w) w v ⌝ }
+{
+    if v < w {
+        return w;
+    }
+    v
+}
+
+// The largest word of the table, and 0 where it has none.
+fn largest(table: &[u16]) -> u16
+    ensures { λ r. ⌜ LargestOf (now (table .entry)) r ⌝ }
+{
+    let mut most = 0;
     let mut i = 0;
     while i < table.len() {
-        good = good & (table[i] < top);
+        most = larger(most, table[i]);
         i += 1;
     }
+    most
+}
+
+// Whether each of the first `n` tasks is live.
+fn all_live(tasks: &[u16], n: usize) -> bool
+    requires { ⌜ n ≤ length (now tasks) ⌝ }
+    ensures { λ r. ⌜ r ≡ allBelow n (liveAt (now (tasks .entry))) ⌝ }
+{
+    let mut good = true;
+    let mut t = 0;
+    while t < n {
+        let w = tasks[t];
+        good = good & ((w == TaskWord::READY) | (TaskWord::FIRST_WAIT <= w));
+        t += 1;
+    }
     good
+}
+
+// Whether each promise's word is unmade, set, or not below the owners.
+fn none_between(promises: &[u16]) -> bool
+    ensures { λ r. ⌜ r ≡ everyWord notBetween (now (promises .entry)) ⌝ }
+{
+    let mut good = true;
+    let mut q = 0;
+    while q < promises.len() {
+        let w = promises[q];
+        good = good & ((w <= PromiseWord::SET) | (PromiseWord::FIRST_OWNED <= w));
+        q += 1;
+    }
+    good
+}
+
+// How many tasks there are up to the last one that is an owner, if `most` is the largest word of a promise.
+fn owners_up_to(most: u16) -> usize
+    ensures { λ r. ⌜ r ≡ ownersUpTo most ⌝ }
+{
+    if most < PromiseWord::FIRST_OWNED {
+        return 0;
+    }
+    wide(most - PromiseWord::FIRST_OWNED) + 1
+}
+
+// A short way to a yes, where no promise is blamed and no task before the last owner is dead; `most` is the largest
+// word of a promise.
+fn all_owned(tasks: &[u16], promises: &[u16], most: u16) -> bool
+    requires { ⌜ LargestOf (now promises) most ⌝ }
+    ensures { λ r. ⌜ (r ≡ true → OnlyOwners (now (tasks .entry)) (now (promises .entry))) ⌝ }
+{
+    let n = owners_up_to(most);
+    if tasks.len() < n {
+        return false;
+    }
+    if !all_live(tasks, n) {
+        return false;
+    }
+    none_between(promises)
 }
 
 // Notes of each task, from `from` on, whether it is live.
@@ -79,13 +152,6 @@ fn note_ended(tasks: &[u16], may: &mut [bool], from: usize)
         may[from + t] = tasks[t] == TaskWord::ENDED;
         t += 1;
     }
-}
-
-// A word as an index.
-fn wide(w: u16) -> usize
-    ensures { λ r. ⌜ r ≡ w ⌝ }
-{
-    w as usize
 }
 
 // Whether each word of the table may stand there.
@@ -120,8 +186,12 @@ fn promises_may(tasks: &[u16], promises: &[u16], may: &mut [bool], base: u16) ->
     ensures { λ r. ⌜ r ≡ allBelow (length (now (promises .entry)))
         (promisePasses base (tables (now (tasks .entry)) (now (promises .entry)))) ⌝ }
 {
-    if !all_below(promises, may.len() as u16) {
+    let most = largest(promises);
+    if may.len() <= most as usize {
         return false;
+    }
+    if all_owned(tasks, promises, most) {
+        return true;
     }
     fill_may(tasks, may, base);
     look_up(promises, may)
