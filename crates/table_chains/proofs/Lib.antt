@@ -1,2 +1,3 @@
 pub mod ComesLaws
 pub mod MarkLaws
+pub mod OneWayLaws

@@ -1,5 +1,6 @@
 // Whether every chain comes to a ready task. Each link is followed once: a walk marks the tasks on its way, and ends
 // where an earlier walk has been.
+use table_access::at;
 use table_hops::Next;
 use table_hops::hop;
 use words::Limit;
@@ -10,9 +11,9 @@ ghost use Prim.Native.Nat.{_≤_, _<_};
 ghost use lib.ListN.{length};
 ghost use Rattle.words.specs.Words.{small};
 ghost use Rattle.words.specs.Lists.{allBelow};
-ghost use Rattle.rules.specs.Tables.{tables, sizesFit};
+ghost use Rattle.rules.specs.Tables.{tables, sizesFit, live as liveWord};
 ghost use Rattle.rules.specs.Sound.{comesInTime};
-ghost use Rattle.table_chains.specs.Marks.{Marked, MarksFor, chainPasses};
+ghost use Rattle.table_chains.specs.Marks.{Marked, MarksFor, chainPasses, LeadsWithin};
 
 // Follows owners from task `v` and marks the tasks on the way with `v` + 1, to a ready task or to one with another
 // mark, whose chain is known to end well: whether the chain of `v` comes to a ready task.
@@ -86,56 +87,67 @@ fn marked_pass(tasks: &[u16], promises: &[u16]) -> bool
     chains_marked(tasks, promises, &mut marks)
 }
 
-// The live task to which a hop from task `v` leads, and the number of tasks where there is none.
-fn live_owner(tasks: &[u16], promises: &[u16], v: usize) -> usize
-    ensures { λ r. ⌜ (r < length (now (tasks .entry)) →
-        LeadsTo (tables (now (tasks .entry)) (now (promises .entry))) v r) ⌝ }
+fn live(w: u16) -> bool
+    ensures { λ r. ⌜ r ≡ liveWord w ⌝ }
 {
-    match hop(tasks, promises, v) {
-        Next::To(x) => {
-            let w = at(tasks, x);
-            if (w == TaskWord::READY) | (TaskWord::FIRST_WAIT <= w) {
-                return x;
-            }
-            tasks.len()
-        }
-        _ => tasks.len(),
+    (w == TaskWord::READY) | (TaskWord::FIRST_WAIT <= w)
+}
+
+// Whether task `v` does not wait, or a hop from it leads to a live task with a number from `low` on and below `high`.
+fn leads_within(tasks: &[u16], promises: &[u16], v: usize, low: usize, high: usize) -> bool
+    ensures { λ r. ⌜ (r ≡ true → LeadsWithin (tables (now (tasks .entry)) (now (promises .entry))) low high v) ⌝ }
+{
+    if at(tasks, v) < TaskWord::FIRST_WAIT {
+        return true;
+    }
+    let h = hop(tasks, promises, v);
+    match h {
+        Next::Ready => false,
+        Next::Lost => false,
+        Next::To(x) => (low <= x) & (x < high) & live(at(tasks, x)),
     }
 }
 
-// A short way to a yes, where every link leads to a task with a higher number, or every link to one with a lower: so
-// no chain comes back, and each ends.
-fn one_way(tasks: &[u16], promises: &[u16]) -> bool
+// Whether every link leads to a task with a higher number: so no chain comes back, and each comes to a ready task.
+fn all_up(tasks: &[u16], promises: &[u16]) -> bool
     ensures { λ r. ⌜ (r ≡ true → allBelow (length (now (tasks .entry)))
         (chainPasses (tables (now (tasks .entry)) (now (promises .entry)))) ≡ true) ⌝ }
 {
-    let mut up = true;
-    let mut down = true;
     let mut v = 0;
     while v < tasks.len() {
-        if TaskWord::FIRST_WAIT <= tasks[v] {
-            let x = live_owner(tasks, promises, v);
-            if tasks.len() <= x {
-                return false;
-            }
-            up = up & (v < x);
-            down = down & (x < v);
-            if !(up | down) {
-                return false;
-            }
+        if !leads_within(tasks, promises, v, v + 1, tasks.len()) {
+            return false;
         }
         v += 1;
     }
     true
 }
 
-// Whether the chain of every waiting task comes to a ready task.
+// The same for lower numbers.
+fn all_down(tasks: &[u16], promises: &[u16]) -> bool
+    ensures { λ r. ⌜ (r ≡ true → allBelow (length (now (tasks .entry)))
+        (chainPasses (tables (now (tasks .entry)) (now (promises .entry)))) ≡ true) ⌝ }
+{
+    let mut v = 0;
+    while v < tasks.len() {
+        if !leads_within(tasks, promises, v, 0, v) {
+            return false;
+        }
+        v += 1;
+    }
+    true
+}
+
+// Whether the chain of every waiting task comes to a ready task. Where all links lead one way no marks are needed.
 pub fn chains_pass(tasks: &[u16], promises: &[u16]) -> bool
     requires { ⌜ sizesFit small (tables (now tasks) (now promises)) ≡ true ⌝ }
     ensures { λ r. ⌜ r ≡ allBelow (length (now (tasks .entry)))
         (chainPasses (tables (now (tasks .entry)) (now (promises .entry)))) ⌝ }
 {
-    if one_way(tasks, promises) {
+    if all_up(tasks, promises) {
+        return true;
+    }
+    if all_down(tasks, promises) {
         return true;
     }
     marked_pass(tasks, promises)

@@ -1,25 +1,29 @@
--- `table_chains::chains_pass` meets its contract: no task is marked at first. Assumes nothing.
-use native.Mathlib.Omega.{arith}
+-- `table_chains::chains_pass` meets its contract: a short way says yes where it can, and otherwise the marks decide.
+-- Assumes nothing.
+use mathlib.Core.Path.{sym}
 use borrow.Author.Needs.{needs}
-use Rattle.words.specs.Words.{small}
-use Rattle.rules.specs.Tables.{tables}
-use Rattle.rules.proofs.BoundsLaws.{sizesFit-true}
-use Rattle.table_chains.proofs.MarkLaws.{marked-none}
 use Rattle.table_chains.proofs.chains_pass.Statement.{statement}
 use Rattle.table_chains.proofs.chains_pass.Tie as tie
 
-slice-aggregate-chains-marked : tie.Need-slice-aggregate-chains-marked
-slice-aggregate-chains-marked c = search needs
-
-chains-marked-requires : tie.Need-chains-marked-requires
-chains-marked-requires c κs =
-    let start = c .before .before .before in
-    let lent = tables (start .args .tasks .now) (start .args .promises .now) in
-    let fit = sizesFit-true small lent (start .pre) in
-    record { room = fit .tasks; fits = omega (arith, fit .tasks); marked = marked-none lent (small .mostTasks) }
+all-up-requires : tie.Need-all-up-requires
+all-up-requires c κs = search needs
 
 returns : tie.Need-returns
-returns c = search needs
+returns c = sym (c .before .all-up .ensures (c .if1 .taken))
+
+all-down-requires : tie.Need-all-down-requires
+all-down-requires c κs = search needs
+
+returns-2 : tie.Need-returns-2
+returns-2 c = sym (c .before .all-down .ensures (c .if2 .taken))
+
+marked-pass-requires : tie.Need-marked-pass-requires
+marked-pass-requires c κs = search needs
+
+returns-3 : tie.Need-returns-3
+returns-3 c = search needs
 
 pub chains-pass-spec : {M : Type 1} → statement M
-chains-pass-spec = tie.close (tie.spec slice-aggregate-chains-marked chains-marked-requires returns)
+chains-pass-spec =
+    tie.close
+    (tie.spec all-up-requires returns all-down-requires returns-2 marked-pass-requires returns-3)
