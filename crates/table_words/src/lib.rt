@@ -94,11 +94,11 @@ fn none_between(promises: &[u16]) -> bool
     ensures { λ r. ⌜ r ≡ everyWord notBetween (now (promises .entry)) ⌝ }
 {
     let mut good = true;
-    let mut q = 0;
-    while q < promises.len() {
-        let w = promises[q];
+    let mut i = 0;
+    while i < promises.len() {
+        let w = promises[i];
         good = good & ((w <= PromiseWord::SET) | (PromiseWord::FIRST_OWNED <= w));
-        q += 1;
+        i += 1;
     }
     good
 }

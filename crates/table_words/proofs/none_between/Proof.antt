@@ -11,10 +11,10 @@ use Rattle.table_words.proofs.none_between.Statement.{statement}
 use Rattle.table_words.proofs.none_between.Tie as tie
 
 abbrev Inv-loop : tie.InvT-loop
-Inv-loop promises good₀ q₀ good q = Tested (λ k. notBetween (getD promises k 0)) (length promises) good q
+Inv-loop promises good₀ i₀ good i = Tested (λ k. notBetween (getD promises k 0)) (length promises) good i
 
 abbrev μ-loop : tie.MeasureT-loop
-μ-loop promises good₀ q₀ good q = (length promises) - q
+μ-loop promises good₀ i₀ good i = (length promises) - i
 
 loop-holds : tie.Need-loop-holds Inv-loop μ-loop
 loop-holds c = tested-start _ _
@@ -25,8 +25,8 @@ mul-w c = search (needs, tests)
 shared-slice-read-w : tie.Need-shared-slice-read-w Inv-loop μ-loop
 shared-slice-read-w c = search (needs, tests)
 
-add-q : tie.Need-add-q Inv-loop μ-loop
-add-q c = search (needs, tests)
+add-i : tie.Need-add-i Inv-loop μ-loop
+add-i c = search (needs, tests)
 
 loop-less : tie.Need-loop-less Inv-loop μ-loop
 loop-less c = search (needs, tests)
@@ -41,4 +41,4 @@ returns c = tested-end _ _ (c .before .loop .inv) (omega arith)
 pub none-between-spec : {M : Type 1} → statement M
 none-between-spec =
     tie.close
-    (tie.spec Inv-loop μ-loop loop-holds mul-w shared-slice-read-w add-q loop-less loop-again returns)
+    (tie.spec Inv-loop μ-loop loop-holds mul-w shared-slice-read-w add-i loop-less loop-again returns)
