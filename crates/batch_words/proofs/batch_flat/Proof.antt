@@ -1,6 +1,6 @@
--- `batch_words::batch_flat` meets its contract: the records still to take, from the tables as they are, make what all of
--- them make of the tables lent (`Going`, as for `batch::batch`); the record of each turn is the one that its five words
--- stand for. Assumes nothing.
+-- `batch_words::batch_flat` meets its contract: the records still to take, from the tables as they are, make what all
+-- of them make of the tables lent (`Going`, as for `batch::batch`); the record of each turn is the one that its five
+-- words stand for. Assumes nothing.
 use mathlib.Core.Path.{_≡_, sym, _∙_}
 use Prim.Native.Nat.{_-_, _*_, _≤_, _<_}
 use native.Mathlib.Omega.{arith}
