@@ -1,7 +1,5 @@
 #!/usr/bin/env python3
-# carry.py GEN CRATE FN S=K.. [walked=F,C:G..] [elems=C] [part] [width=N] [lts | cycle] [plain]
-# plain: FN's own signature has no slice of structs; part: FN lends a part of an array of structs; C:G is a walked function of the crate C, elems=C
-# takes the names of the structs from that crate.
+# carry.py GEN CRATE FN S=K.. [walked=F..] [width=N] [lts | cycle]
 # Takes what `rattle check --generated GEN` printed for the twin (twin.py) of the function FN, and writes
 #   crates/CRATE/proofs/Carried/FN.antt          its kinds and how its contract reads (Kinds, Reads): what a caller's derivation cites
 #   crates/CRATE/proofs/FN/Proof/Lts.antt, Tie.antt   the derivation of its MIR and its needs (with `lts`)
@@ -13,8 +11,7 @@ structs = {v: k for k, v in opts if v.isdigit() and k != 'width'}
 walked = next((v.split(',') for k, v in opts if k == 'walked'), [])
 width = int(next((v for k, v in opts if k == 'width'), 180))
 P = f'Rattle.{crate}.proofs'
-named = next((v for k, v in opts if k == 'elems'), None)
-ELEMS = f'Rattle.{named}.proofs.Elems' if named else f'{P}.Elems'
+ELEMS = f'{P}.Elems'
 
 def read(part, of=fn):
     t = open(f'{gen}/Rattle.{crate}.proofs/proofs/{of}/{part}.antt').read()
@@ -25,13 +22,6 @@ def read(part, of=fn):
             t = re.sub(rf"Array'?\.Array\s+\(\s*Referent\.rtF\s+\(\s*Referent\.fInt\s+Syntax\.w32\s*\)\s*\)\s+{k}\b", f'Referent.rtF (Referent.fInt Syntax.w{w})', t)
             t = re.sub(rf'Syntax\.tyArray\s+\(Syntax\.tyInt\s+Syntax\.w32\)\s+{k}\b', f'Syntax.tyInt Syntax.w{w}', t)
             continue
-        # an array of structs by value
-        E, S = r'\(\s*Array\.eInt\s+Syntax\.w32\s*\)', f'Elems.{s}-type Elems.{s}-laws Elems.{s}-copy'
-        t = re.sub(rf'Array\.eArr-laws\s+{E}\s+\(\s*Array\.eInt-laws\s+Syntax\.w32\s*\)\s+{k}\b', f'Array.eStruct-laws {S} Elems.{s}-plain', t)
-        t = re.sub(rf'Array\.eArr\s+{E}\s+{k}\b', f'Array.eStruct {S}', t)
-        t = re.sub(rf'Copies\.cArr\s+\(\s*Referent\.rtF\s+\(\s*Referent\.fInt\s+Syntax\.w32\s*\)\s*\)\s+\(\s*Copies\.cRf\s+\(\s*Referent\.fInt\s+Syntax\.w32\s*\)\s*\)\s+{k}\b', f'Copies.cStruct {S}', t)
-        t = re.sub(rf'(Syntax\.tyRef\s+(?:\(\s*Syntax\.named\s+\d+\s*\)|Syntax\.erased)\s+Syntax\.(?:imm|mut)\s+\(\s*Syntax\.tyArray\s+)\(\s*Syntax\.tyArray\s+\(Syntax\.tyInt\s+Syntax\.w32\)\s+{k}\s*\)', rf'\1Elems.{s}-pointed', t)
-        t = re.sub(rf'Syntax\.tyArray\s+\(\s*Syntax\.tyArray\s+\(Syntax\.tyInt\s+Syntax\.w32\)\s+{k}\s*\)', f'Syntax.tyArray Elems.{s}-mir', t)
         t = re.sub(rf"Array'?\.Array\s+\(\s*Referent\.rtF\s+\(\s*Referent\.fInt\s+Syntax\.w32\s*\)\s*\)\s+{k}\b", f'Elems.{s}-row', t)
         t = re.sub(rf'Syntax\.deref\s+\(\s*Syntax\.tyArray\s+\(Syntax\.tyInt\s+Syntax\.w32\)\s+{k}\s*\)', f'Syntax.deref Elems.{s}-mir', t)
         t = re.sub(rf'\(\s*Syntax\.tyArray\s+\(Syntax\.tyInt\s+Syntax\.w32\)\s+{k}\s*\)', f'Elems.{s}-pointed', t)
@@ -352,10 +342,8 @@ def lease(m):
     return k + (m.group(2) or '')
 
 def where(u):   # the walked functions' parts are carried
-    for c, g in [w.split(':') for w in walked if ':' in w]:
-        u = re.sub(rf'^use Rattle\.{c}\.proofs\.{g}\.(Reads|Kinds)( as \S+)?$', lambda m: f'use Rattle.{c}.proofs.Carried.{g}' + (m.group(2) or f' as {m.group(1)}'), u)
-    for g in [w for w in walked if ':' not in w] + [fn]:
-        if not (g == fn and 'plain' in sys.argv): u = re.sub(rf'^use {re.escape(P)}\.{g}\.(Reads|Kinds)( as \S+)?$', lambda m: f'use {P}.Carried.{g}' + (m.group(2) or f' as {m.group(1)}'), u)
+    for g in walked + [fn]:
+        u = re.sub(rf'^use {re.escape(P)}\.{g}\.(Reads|Kinds)( as \S+)?$', lambda m: f'use {P}.Carried.{g}' + (m.group(2) or f' as {m.group(1)}'), u)
         u = re.sub(rf'^use {re.escape(P)}\.{g}\.Lts$', f'use {P}.{g}.Proof.Lts', u)
         u = re.sub(rf'^use {re.escape(P)}\.\+{g}\.Lts-{g}$', f'use {P}.+{g}.Proof.Lts as Lts-{g}', u)
     return u
@@ -371,8 +359,6 @@ def write(path, head, decls, uses, keep=()):
     used = ' '.join(d for _, d in decls)
     if 'ArgsT' in used: more.append('use borrow.Fn.Args.{ArgsT}')
     if 'units ' in used: more.append(f'use {ELEMS}.{{units}}')
-    # a part of an array is lent at its elements' own type
-    if 'part' in sys.argv: decls = [[i, re.sub(r'(\(arr-shr (\w+)-row \d+ \d+\)) \2-pointed \(tyRef', r'\1 \2-mir (tyRef', d)] for i, d in decls]
     lines = [l.replace('use mathlib.Core.List.{', 'use mathlib.Core.List.{[], _∷_, ') for l in lines] + more
     el = [l for l in lines if l.startswith(f'use {ELEMS}.{{')]
     if len(el) > 1:
@@ -411,13 +397,13 @@ for u in ku:
         al[m.group(1)] = b
     if a != b: kd = [[i, re.sub(rf"(?<![\w'.]){re.escape(a)}\.", b + '\0.', d)] for i, d in kd]
 kd = [[i, d.replace('\0', '')] for i, d in kd]
-if 'plain' not in sys.argv: write(f'crates/{crate}/proofs/Carried/{fn}.antt', [], kd + rd, [f'use {m}' + (f' as {a}' if a != m.split(".")[-1] else '') for m, a in al.items()])
+write(f'crates/{crate}/proofs/Carried/{fn}.antt', [], kd + rd, [f'use {m}' + (f' as {a}' if a != m.split(".")[-1] else '') for m, a in al.items()])
 if 'lts' in sys.argv or 'cycle' in sys.argv:   # `cycle`: FN is a cycle of calls of its own
     at = '+' + fn if 'cycle' in sys.argv else fn
     u, d = split(read('Lts-' + fn if 'cycle' in sys.argv else 'Lts', at)); write(f'crates/{crate}/proofs/{at}/Proof/Lts.antt', [], d, u)
     u, d = split(read('Tie', at))
     al = {m.group(1): m.group(2) or m.group(1).split('.')[-1] for x in u for m in [re.match(r'use (\S+?)(?: as (\S+))?$', x)]}
     k, r = al[f'{P}.{fn}.Kinds'], al[f'{P}.{fn}.Reads']
-    if 'plain' not in sys.argv: d = [[i, re.sub(rf"(?<![\w'.]){re.escape(k)}\.(ps|r)(?![\w'.])", lambda m: r + {'ps': '.params', 'r': '.result'}[m.group(1)], s)] for i, s in d]
-    if 'plain' not in sys.argv: u = [x for x in u if not x.startswith(f'use {P}.{fn}.Kinds')]
+    d = [[i, re.sub(rf"(?<![\w'.]){re.escape(k)}\.(ps|r)(?![\w'.])", lambda m: r + {'ps': '.params', 'r': '.result'}[m.group(1)], s)] for i, s in d]
+    u = [x for x in u if not x.startswith(f'use {P}.{fn}.Kinds')]
     write(f'crates/{crate}/proofs/{at}/Proof/Tie.antt', [], d, u, keep=('Lts', 'Lts-' + fn, 'Reads', "Reads'", "Reads''", "Reads'3", "Reads'4"))

@@ -7,13 +7,11 @@ structs = list(homes)
 def home(s): return f'Rattle.{homes[s]}.proofs' if homes[s] else f'Rattle.{crate}.proofs'
 o = ['-- The names by which the carried derivations (tools/carry) cite the structs of the crate, and `put`. Definitions; assumes nothing.',
  'use Prim.Native.Nat.{ℕ, zero, suc}', 'use mathlib.Core.List.{List, [], _∷_}', 'use mir.Syntax.{Ty, w8, w16, w64}', 'use denote.RattleType.{RattleType}', 'use denote.Memory.{pointee}',
- 'use denote.Struct.Declared.{Declared, fields}', 'use denote.Struct.Laws.{Laws, Copyables}', 'use denote.Struct.Struct.{Plains}',
  'use borrow.Table.Referent.{rtF, fInt}', 'use borrow.Table.Row.{Row, Entry}']
 for s in structs: o += [f'use {home(s)}.{s} as {s}', f'use {home(s)}.{s}.Laws as {s}′']
 for s in structs:
-    o += ['', f'-- {s}: its type as an element; as MIR writes it behind a reference, and by value; and its laws']
-    for n, t, v in (('row', 'RattleType', f'{s}.the-row'), ('pointed', 'Ty', f'pointee ({s}.the-row .written)'), ('mir', 'Ty', f'{s}′.mir'), ('type', 'Declared', f'{s}.the-type'),
-                    ('laws', f'Laws {s}.the-type', f'{s}′.the-laws'), ('copy', f'Copyables ({s}.the-type .parts)', f'{s}′.the-copy'), ('plain', f'Plains (fields {s}.the-type)', f'{s}′.the-plain')):
+    o += ['', f'-- {s}: its type as an element; as MIR writes it behind a reference, and by value']
+    for n, t, v in (('row', 'RattleType', f'{s}.the-row'), ('pointed', 'Ty', f'pointee ({s}.the-row .written)'), ('mir', 'Ty', f'{s}′.mir')):
         o += [f'abbrev pub {s}-{n} : {t}', f'{s}-{n} = {v}', '']
     o.pop()
 o += ['', '-- a slice of numbers']

@@ -4,15 +4,12 @@ use mathlib.Core.List.{List, [], _∷_}
 use mir.Syntax.{Ty, w8, w16, w64}
 use denote.RattleType.{RattleType}
 use denote.Memory.{pointee}
-use denote.Struct.Declared.{Declared, fields}
-use denote.Struct.Laws.{Laws, Copyables}
-use denote.Struct.Struct.{Plains}
 use borrow.Table.Referent.{rtF, fInt}
 use borrow.Table.Row.{Row, Entry}
 use Rattle.batch_record.proofs.Record as Record
 use Rattle.batch_record.proofs.Record.Laws as Record′
 
--- Record: its type as an element; as MIR writes it behind a reference, and by value; and its laws
+-- Record: its type as an element; as MIR writes it behind a reference, and by value
 abbrev pub Record-row : RattleType
 Record-row = Record.the-row
 
@@ -21,18 +18,6 @@ Record-pointed = pointee (Record.the-row .written)
 
 abbrev pub Record-mir : Ty
 Record-mir = Record′.mir
-
-abbrev pub Record-type : Declared
-Record-type = Record.the-type
-
-abbrev pub Record-laws : Laws Record.the-type
-Record-laws = Record′.the-laws
-
-abbrev pub Record-copy : Copyables (Record.the-type .parts)
-Record-copy = Record′.the-copy
-
-abbrev pub Record-plain : Plains (fields Record.the-type)
-Record-plain = Record′.the-plain
 
 -- a slice of numbers
 abbrev pub U8 : RattleType

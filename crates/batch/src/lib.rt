@@ -45,7 +45,7 @@ fn has_room(tasks: usize, promises: usize, records: usize, report: usize, answer
 }
 
 // Refusal 1 or 2 of the call, or 0; of the records, the report and the answers the lengths are told.
-fn call_refusal(
+pub fn call_refusal(
     tasks: &[u16],
     promises: &[u16],
     records: usize,

@@ -1,24 +1,20 @@
--- Laws of specs/Flat.antt: a record taken from the front of the words, their number, and the ways out of a call.
+-- Laws of specs/Flat.antt: a record of the words, their number, and the ways out of a call.
 -- Assumes nothing.
-use Prim.Native.Nat.{ℕ, suc, _+_, _*_, _-_, _/_, _≤_, _<_}
+use Prim.Native.Nat.{ℕ, zero, suc, _+_, _*_, _-_, _/_, _≤_, _<_}
 use mathlib.Core.Path.{_≡_, refl, sym, ap, _∙_}
 use mathlib.Core.List.{List, [], _∷_}
 use mathlib.Core.Bool.{true, false, _&&_}
 use native.Mathlib.Omega.{arith}
-use native.Mathlib.Numerals.{add-one}
 use borrow.Author.Tests.{le-leb, lt-leb}
 use lib.Dec.{leb}
-use lib.ListN.{length, getD, set, take, drop, length-drop, drop-of-length-le}
-use lib.Seq.{drop-cons, sets, sets-eq, take-at}
-use Rattle.words.specs.Words.{Form, mostRecords}
+use lib.ListN.{length, getD, drop, length-drop, drop-of-length-le}
+use lib.Seq.{drop-cons}
+use Rattle.words.specs.Words.{Form}
 use Rattle.words.proofs.BoolLaws.{true-is-not-false, and-split}
 use Rattle.words.proofs.ListLaws.{over-none}
 use Rattle.rules.specs.Tables.{Tables}
-use Rattle.rules.specs.Refusals.{first}
-use Rattle.batch_record.specs.declared.Record.{Record}
 use Rattle.batch.specs.declared.Called.{Called}
-use Rattle.batch.specs.Batches.{refused, called, batched, Batches}
-use Rattle.batch.proofs.BatchLaws.{room-too-many}
+use Rattle.batch.specs.Batches.{recordAt, batched, Batches}
 use Rattle.batch_words.specs.Flat.{recordIn, recordsOf, isFlat, calledNumber, flatly, Flats}
 
 -- ---- five words of a list
@@ -87,14 +83,17 @@ flat-fives (k ∷ t ∷ o ∷ a ∷ n ∷ ws) e = omega (arith, flat-fives ws (a
 
 -- ---- the records
 
-pub records-step : (ws : List ℕ) (i : ℕ) → i + 5 ≤ length ws
-    → recordsOf (drop i ws) ≡ recordIn ws i ∷ recordsOf (drop (i + 5) ws)
-unfolding recordsOf recordIn
-records-step ws i h = rw (five ws i h)
-
-records-end : (ws : List ℕ) (i : ℕ) → length ws ≤ i → recordsOf (drop i ws) ≡ []
-unfolding recordsOf
-records-end ws i h = rw (drop-of-length-le ws h)
+-- past the first five words
+recordIn-past : (k t o a m : ℕ) (ws : List ℕ) (i : ℕ)
+    → recordIn (k ∷ t ∷ o ∷ a ∷ m ∷ ws) (suc i * 5) ≡ recordIn ws (i * 5)
+unfolding recordIn
+recordIn-past k t o a m ws i =
+    let e₀ : suc i * 5 ≡ suc (suc (suc (suc (suc (i * 5))))) = omega arith in
+    let e₁ : suc i * 5 + 1 ≡ suc (suc (suc (suc (suc (i * 5 + 1))))) = omega arith in
+    let e₂ : suc i * 5 + 2 ≡ suc (suc (suc (suc (suc (i * 5 + 2))))) = omega arith in
+    let e₃ : suc i * 5 + 3 ≡ suc (suc (suc (suc (suc (i * 5 + 3))))) = omega arith in
+    let e₄ : suc i * 5 + 4 ≡ suc (suc (suc (suc (suc (i * 5 + 4))))) = omega arith in
+    rw (e₁, e₂, e₃, e₄, e₀)
 
 pub records-count : (ws : List ℕ) (n : ℕ) → length ws ≡ n * 5 → length (recordsOf ws) ≡ n
 unfolding recordsOf
@@ -105,62 +104,36 @@ records-count (k ∷ t ∷ o ∷ []) n e = absurd (omega arith)
 records-count (k ∷ t ∷ o ∷ a ∷ []) n e = absurd (omega arith)
 records-count (k ∷ t ∷ o ∷ a ∷ m ∷ ws) n e = omega (arith, records-count ws (n - 1) (omega arith))
 
--- the i-th record put into the array: what is left to put makes the same array
-pub put-more : (ws : List ℕ) (q : List Record) (i n : ℕ) {r : Record} → i < n → length ws ≡ n * 5
-    → r ≡ recordIn ws (i * 5)
-    → sets (set q i r) (i + 1) (recordsOf (drop ((i + 1) * 5) ws)) ≡ sets q i (recordsOf (drop (i * 5) ws))
-put-more ws q i n h e f = let s : (i + 1) * 5 ≡ i * 5 + 5 = omega arith in rw
-    (s, records-step ws (i * 5) (omega arith), f, add-one i)
-
--- and when none is left, its first n are the records
-pub put-all : (ws : List ℕ) (q q₀ : List Record) (n : ℕ) → n ≤ length q₀ → length ws ≡ n * 5
-    → sets q n (recordsOf (drop (n * 5) ws)) ≡ sets q₀ 0 (recordsOf ws) → take n q ≡ recordsOf ws
-put-all ws q q₀ n l e f =
-    let k : length (recordsOf ws) ≡ n = records-count ws n e in
-    let g : q ≡ sets q₀ 0 (recordsOf ws) = sym (ap (sets q n) (records-end ws (n * 5) (omega arith))) ∙ f in
-    let z : 0 + length (recordsOf ws) ≡ length (recordsOf ws) = omega arith in
-    rw (g, sets-eq (recordsOf ws) q₀ 0 (omega arith), z) (take-at (recordsOf ws) (drop (length (recordsOf ws)) q₀) n k)
+-- the i-th record is that of the five words from i * 5 on
+pub records-at : (ws : List ℕ) (i n : ℕ) → length ws ≡ n * 5 → i < n → recordIn ws (i * 5) ≡ recordAt (recordsOf ws) i
+unfolding recordsOf recordIn
+records-at [] i n e h = absurd (omega arith)
+records-at (k ∷ []) i n e h = absurd (omega arith)
+records-at (k ∷ t ∷ []) i n e h = absurd (omega arith)
+records-at (k ∷ t ∷ o ∷ []) i n e h = absurd (omega arith)
+records-at (k ∷ t ∷ o ∷ a ∷ []) i n e h = absurd (omega arith)
+records-at (k ∷ t ∷ o ∷ a ∷ m ∷ ws) zero n e h = refl
+records-at (k ∷ t ∷ o ∷ a ∷ m ∷ ws) (suc i) n e h =
+    recordIn-past k t o a m ws i ∙ records-at ws i (n - 1) (omega arith) (omega arith)
 
 -- ---- the ways out of a call
 
-by-1 : (F : Form) (list : List ℕ) (s : Tables) (ws rs vs : List ℕ)
-    → flatly F list s ws (length rs) (length vs) ≡ refused 1 s
-    → Flats (flatly F list s ws (length rs) (length vs)) rs vs 1 s rs vs
-unfolding calledNumber
-by-1 F list s ws rs vs e = rw e (record
-    { number = refl; after = refl; report = sym (over-none rs); answers = sym (over-none vs) })
+module _ (F : Form) (list : List ℕ) (s : Tables) (ws rs vs : List ℕ) where
+  -- the words are no records
+  pub flat-refused : isFlat ws ≡ false → Flats (flatly F list s ws (length rs) (length vs)) rs vs 1 s rs vs
+  unfolding flatly calledNumber
+  flat-refused e = rw e (record
+      { number = refl; after = refl; report = sym (over-none rs); answers = sym (over-none vs) })
 
--- the words are no records
-pub flat-refused : (F : Form) (list : List ℕ) (s : Tables) (ws rs vs : List ℕ) → isFlat ws ≡ false
-    → Flats (flatly F list s ws (length rs) (length vs)) rs vs 1 s rs vs
-unfolding flatly
-flat-refused F list s ws rs vs e = by-1 F list s ws rs vs (rw e)
-
--- they are too many
-pub flat-many : (F : Form) (list : List ℕ) (s : Tables) (ws rs vs : List ℕ) → isFlat ws ≡ true
-    → mostRecords < length ws / 5
-    → Flats (flatly F list s ws (length rs) (length vs)) rs vs 1 s rs vs
-unfolding flatly first called
-flat-many F list s ws rs vs e h =
-    let k : length (recordsOf ws) ≡ length ws / 5 = records-count ws (length ws / 5) (flat-fives ws e) in
-    by-1 F list s ws rs vs
-    (rw (
-      e,
-      ← room-too-many F (length (s .tasks)) (length (s .promises)) (length (recordsOf ws)) (length rs)
-          (length vs) (omega arith),
-    ))
-
--- they are the call by the records
-pub flat-batches : (F : Form) (list : List ℕ) (s : Tables) (ws rs vs : List ℕ) (q : List Record) {c : Called} {r : ℕ}
-    {s′ : Tables} {rs′ vs′ : List ℕ} → isFlat ws ≡ true → q ≡ recordsOf ws
-    → Batches (batched F list s q (length rs) (length vs)) rs vs c s′ rs′ vs′ → r ≡ calledNumber c
-    → Flats (flatly F list s ws (length rs) (length vs)) rs vs r s′ rs′ vs′
-unfolding flatly
-flat-batches F list s ws rs vs q e f g h =
-    rw (e, ← f) (record {
-      number = h ∙ ap calledNumber (g .answer);
-      after = g .after;
-      report = g .report;
-      answers =
-          g .answers;
-    })
+  -- they are the call by the records
+  pub flat-batches : {c : Called} {r : ℕ} {s′ : Tables} {rs′ vs′ : List ℕ} → isFlat ws ≡ true
+      → Batches (batched F list s (recordsOf ws) (length rs) (length vs)) rs vs c s′ rs′ vs′ → r ≡ calledNumber c
+      → Flats (flatly F list s ws (length rs) (length vs)) rs vs r s′ rs′ vs′
+  unfolding flatly
+  flat-batches e g h =
+      rw e (record {
+        number = h ∙ ap calledNumber (g .answer);
+        after = g .after;
+        report = g .report;
+        answers = g .answers;
+      })

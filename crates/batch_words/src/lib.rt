@@ -1,15 +1,15 @@
 // The batch for callers that know numbers alone: a record is five words, its kind, its task, its other number, and
 // the start and the length of its part of the list.
 use batch::Called;
-use batch::batch;
+use batch::call_refusal;
 use batch_record::Record;
+use batch_record::turn;
 use step_kinds::Kind;
 use table_access::at;
-use words::Limit;
 ghost use mathlib.Core.Path.{_≡_};
 ghost use Prim.Native.Nat.{_*_, _≤_};
-ghost use lib.ListN.{length, take};
-ghost use Rattle.words.specs.Words.{small, mostRecords};
+ghost use lib.ListN.{length};
+ghost use Rattle.words.specs.Words.{small};
 ghost use Rattle.rules.specs.Tables.{tables as tablesOf};
 ghost use Rattle.batch.specs.Batches.{batched, Batches};
 ghost use Rattle.batch_words.specs.Flat.{kindOf, recordIn, recordsOf, isFlat, calledNumber, flatly, Flats};
@@ -66,37 +66,34 @@ fn is_flat(steps: &[u16]) -> bool
     true
 }
 
-// The `n` records that the words stand for, at the front of an array.
-fn records_of(steps: &[u16], n: usize) -> [Record; Limit::RECORDS]
-    requires { ⌜ (n ≤ mostRecords) × (length (now steps) ≡ n * 5) ⌝ }
-    ensures { λ r. ⌜ take n r ≡ recordsOf (now (steps .entry)) ⌝ }
-{
-    let mut records = [record_of(steps, 0); Limit::RECORDS];
-    let mut i = 0;
-    while i < n {
-        records[i] = record_of(steps, i * 5);
-        i += 1;
-    }
-    records
-}
-
-// The call of the first `n` records of an array.
-fn batch_first(
+// The call of the `n` records that the words stand for: each is read when its turn comes.
+fn batch_flat(
     tasks: &mut [u16],
     promises: &mut [u16],
     report: &mut [u16],
-    records: [Record; Limit::RECORDS],
+    steps: &[u16],
     n: usize,
     list: &[u16],
     answers: &mut [u16],
 ) -> Called
-    requires { ⌜ n ≤ mostRecords ⌝ }
+    requires { ⌜ length (now steps) ≡ n * 5 ⌝ }
     ensures { λ r. ⌜ Batches (batched small (now (list .entry))
-        (tablesOf (now (tasks .entry)) (now (promises .entry))) (take n records) (length (now (report .entry)))
-        (length (now (answers .entry)))) (now (report .entry)) (now (answers .entry)) r
+        (tablesOf (now (tasks .entry)) (now (promises .entry))) (recordsOf (now (steps .entry)))
+        (length (now (report .entry))) (length (now (answers .entry)))) (now (report .entry)) (now (answers .entry)) r
         (tablesOf (now (tasks .exit)) (now (promises .exit))) (now (report .exit)) (now (answers .exit)) ⌝ }
 {
-    batch(tasks, promises, report, &records[0..n], list, answers)
+    let refusal = call_refusal(tasks, promises, n, report.len(), answers.len());
+    if refusal != 0 {
+        return Called::Refused(refusal);
+    }
+    let mut at = 0;
+    let mut i = 0;
+    while i < n {
+        let r = record_of(steps, i * 5);
+        at = turn(tasks, promises, report, at, r, list, answers, i);
+        i += 1;
+    }
+    Called::Done(at)
 }
 
 // An answer to the call as a number: its refusal, or 0.
@@ -127,9 +124,5 @@ pub fn batch_words(
         return 1;
     }
     let n = steps.len() / 5;
-    if Limit::RECORDS < n {
-        return 1;
-    }
-    let records = records_of(steps, n);
-    called_number(batch_first(tasks, promises, report, records, n, list, answers))
+    called_number(batch_flat(tasks, promises, report, steps, n, list, answers))
 }

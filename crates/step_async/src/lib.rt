@@ -2,9 +2,9 @@
 // it, or none does.
 ghost use mathlib.Core.Path.{_≡_};
 ghost use mathlib.Core.List.{[], _∷_};
-ghost use mathlib.Core.Bool.{true, not};
-ghost use Prim.Native.Nat.{_-_, _<_};
-ghost use lib.ListN.{length, getD};
+ghost use mathlib.Core.Bool.{true, false, not};
+ghost use Prim.Native.Nat.{_-_, _≤_, _<_};
+ghost use lib.ListN.{length, getD, replicate};
 ghost use Rattle.words.specs.Words.{small};
 ghost use Rattle.words.specs.Lists.{allBelow};
 ghost use Rattle.rules.specs.Tables.{tables as tablesOf, sizesFit};
@@ -20,6 +20,7 @@ use step_guards::own_refusal;
 use table_access::at;
 use table_access::number_at;
 use table_access::put;
+use words::Limit;
 use words::PromiseWord;
 use words::TaskWord;
 
@@ -57,19 +58,37 @@ fn entry_refusal(promises: &[u16], t: u16, list: &[u16], k: usize) -> u16
     earlier(own, again)
 }
 
-// The first bad place, and the list's length where there is none.
-fn first_bad(promises: &[u16], t: u16, list: &[u16]) -> usize
+// The first bad place, and the list's length where there is none. `seen` has a mark for each promise, none of them set:
+// each is set at the first entry that names its promise.
+fn first_bad_marked(promises: &[u16], t: u16, list: &[u16], seen: &mut [bool]) -> usize
+    requires { ⌜ (length (now promises) ≤ length (now seen)) × (now seen ≡ replicate (length (now seen)) false) ⌝ }
     ensures { λ r. ⌜ r ≡ firstBad (entryRefusal (small .base) (now (promises .entry)) t (now (list .entry)))
         (length (now (list .entry))) 0 ⌝ }
 {
     let mut i = 0;
     while i < list.len() {
-        if entry_refusal(promises, t, list, i) != 0 {
+        let q = list[i];
+        if own_refusal(promises, t, q) != 0 {
             return i;
         }
+        let place = q as usize;
+        if seen[place] {
+            return i;
+        }
+        seen[place] = true;
         i += 1;
     }
     i
+}
+
+// The same, with marks of its own.
+fn first_bad(promises: &[u16], t: u16, list: &[u16]) -> usize
+    requires { ⌜ length (now promises) ≤ small .mostPromises ⌝ }
+    ensures { λ r. ⌜ r ≡ firstBad (entryRefusal (small .base) (now (promises .entry)) t (now (list .entry)))
+        (length (now (list .entry))) 0 ⌝ }
+{
+    let mut seen = [false; Limit::PROMISES];
+    first_bad_marked(promises, t, list, &mut seen)
 }
 
 // The answer that refuses for entry `k`, at its place: 17 with the task that the entry is blamed on.

@@ -46,7 +46,7 @@ returns : tie.Need-returns
 returns c rs = gives-refused _ _ _ rs (c .before .refusal .ensures) (c .if1 .taken)
 
 first-bad-requires : tie.Need-first-bad-requires
-first-bad-requires c κs = search needs
+first-bad-requires c κs = fitting (start (c .before .before)) .promises
 
 refused-entry-requires : tie.Need-refused-entry-requires
 refused-entry-requires c κs =
