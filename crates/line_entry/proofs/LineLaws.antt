@@ -7,8 +7,8 @@ use native.Mathlib.Omega.{arith}
 use native.Mathlib.Nat.{sub-zero}
 use lib.Dec.{eqb, leb}
 use borrow.Author.Tests.{eqb-true, leb-true, lt-ltb, le-ltb}
-use lib.ListN.{length, take, drop, length-replicate}
-use lib.Seq.{take-append-seam, take-all}
+use lib.ListN.{length, take, drop, getD, length-replicate}
+use lib.Seq.{take-append-seam, take-all, getD-take}
 use Rattle.words.specs.Words.{ofLines, lastLine, longestLine, longestAnswer, lineReport, mostEntries}
 use Rattle.words.specs.Lists.{over}
 use Rattle.words.proofs.BoolLaws.{and-split}
@@ -20,9 +20,10 @@ use Rattle.step_kinds.specs.declared.Kind.{Kind}
 use Rattle.steps.specs.Named.{stepBy}
 use Rattle.text_forms.specs.declared.LineForm.{LineForm as LineForm}
 use Rattle.text_forms.specs.declared.LineForm.the-variants as F
-use Rattle.text_forms.specs.Judging.{entryCount, lineForm, entriesOf, InLine, Judged}
+use Rattle.text_forms.specs.Judging.{entryCount, lineForm, entriesOf, mayList, InLine, Judged}
 use Rattle.text_forms.proofs.JudgingLaws.{lineForm-long, entriesOf-long}
-use Rattle.text_forms.proofs.Theorems.{step-counts, entries-half, judged-whole, column-in-line}
+use Rattle.text_forms.proofs.Unlisted.{mayList-is, entriesOf-none}
+use Rattle.text_forms.proofs.Theorems.{step-counts, count-within, entries-half, judged-fits, column-in-line}
 use Rattle.text_buffers.specs.Buffers.{fitting, Wrote}
 use Rattle.words.proofs.ListLaws.{over-length}
 use Rattle.text_buffers.proofs.BufferLaws.{fitting-most, wrote-room}
@@ -71,16 +72,6 @@ lentWell-true n session st report out e =
       room = leb-true longestAnswer out d₂;
     }
 
--- the lent words have room for every list
-pub count-most : (s : List ℕ) → entryCount (lineForm s) ≤ mostEntries
-unfolding entryCount
-count-most s = go (lineForm s) refl
-  where
-    go : (f : LineForm) → lineForm s ≡ f → entryCount f ≤ mostEntries
-    go (F.Open T P) e = omega arith
-    go (F.Step k t p c) e = omega (arith, step-counts s k t p c e, entries-half s)
-    go (F.Bad c) e = omega arith
-
 -- what the lent words then hold is the list of the line
 step-entries : (s o x : List ℕ) (k : Kind) (t p c : ℕ) → lineForm s ≡ F.Step k t p c → x ≡ over (entriesOf s) o
     → take c x ≡ entriesOf s
@@ -89,13 +80,21 @@ step-entries s o x k t p c e w =
     let n : c ≡ length (entriesOf s) = step-counts s k t p c e in
     rw (w, n) (take-append-seam (entriesOf s) (drop (length (entriesOf s)) o))
 
-pub deed-read : (s o x : List ℕ) (f : LineForm) (session : Session) (st : Tables) (n : ℕ) → Judged s o x f
-    → mostEntries ≤ length o → deedOf f (take (entryCount f) x) session st n ≡ lineDeed s session st n
+deed-read : (s o x : List ℕ) (f : LineForm) (session : Session) (st : Tables) (n : ℕ) → Judged s o x f
+    → length (entriesOf s) ≤ length o → deedOf f (take (entryCount f) x) session st n ≡ lineDeed s session st n
 unfolding entryCount over
 deed-read s o x f session st n j h =
     ap (λ (g : LineForm). deedOf g (take (entryCount g) x) session st n) (j .form)
     ∙ deed-list (lineForm s) (take (entryCount (lineForm s)) x) (entriesOf s) session st n
-    (λ k t p c e. ap (λ (g : LineForm). take (entryCount g) x) e ∙ step-entries s o x k t p c e (judged-whole j h))
+    (λ k t p c e. ap (λ (g : LineForm). take (entryCount g) x) e ∙ step-entries s o x k t p c e (judged-fits j h))
+
+-- so what is done with them is what the line does
+pub does-read : (s o x : List ℕ) (f : LineForm) (session : Session) (st : Tables) (rs : List ℕ) {d : Done}
+    {st′ : Tables} {rs′ : List ℕ} → Judged s o x f → length (entriesOf s) ≤ length o
+    → Does (deedOf f (take (entryCount f) x) session st (length rs)) rs d st′ rs′
+    → Does (lineDeed s session st (length rs)) rs d st′ rs′
+does-read s o x f session st rs {d} {st′} {rs′} j h does =
+    subst (λ (y : Deed). Does y rs d st′ rs′) (deed-read s o x f session st (length rs) j h) does
 
 -- ---- every answer fits
 
@@ -142,14 +141,13 @@ entry-within line n session st rs out = go (lentWell n session st (length rs) (l
     go false e = omega arith
 
 -- what was done and what was written make the entry
-pub enters-of : (n : ℕ) (rs out : List ℕ) {d d′ : Deed} {x : Done} {e : Entered} {st : Tables} {rs′ out′ : List ℕ}
-    → d ≡ d′ → Does d rs x st rs′ → length (deedText n d′ rs) ≤ length out
+pub enters-of : (n : ℕ) (rs out : List ℕ) {d : Deed} {x : Done} {e : Entered} {st : Tables} {rs′ out′ : List ℕ}
+    → Does d rs x st rs′ → length (deedText n d rs) ≤ length out
     → Wrote (answerText n (x .answer) rs′) out out′ (e .bytes) → e .number ≡ 0 → e .session ≡ x .session
-    → Enters (entered n rs out d′) e st rs′ out′
+    → Enters (entered n rs out d) e st rs′ out′
 unfolding over
-enters-of n rs out {d} {d′} {x} {e} {st} {rs′} {out′} z does fit wrote number session =
-    let g : Does d′ rs x st rs′ = subst (λ (y : Deed). Does y rs x st rs′) z does in
-    let w : Wrote (deedText n d′ rs) out out′ (e .bytes) =
+enters-of n rs out {d} {x} {e} {st} {rs′} {out′} g fit wrote number session =
+    let w : Wrote (deedText n d rs) out out′ (e .bytes) =
     subst₂ (λ (a : Answer) (r : List ℕ). Wrote (answerText n a r) out out′ (e .bytes)) (g .answer) (g .report) wrote in
     let room = wrote-room w fit in
     record {
@@ -162,12 +160,20 @@ enters-of n rs out {d} {d′} {x} {e} {st} {rs′} {out′} z does fit wrote num
     }
 
 -- the list that a line was read into is as long as it was lent
-pub judged-count : (s o x : List ℕ) (f : LineForm) → Judged s o x f → mostEntries ≤ length o → entryCount f ≤ length x
+pub judged-count : (s o x : List ℕ) (f : LineForm) → Judged s o x f → length (entriesOf s) ≤ length o
+    → entryCount f ≤ length x
 judged-count s o x f j h =
     let kept = over-length (fitting (entriesOf s) o) o (fitting-most (entriesOf s) o) in
     let e : length x ≡ length o = ap (λ (l : List ℕ). length l) (j .words) ∙ kept in
-    let k = subst (λ (g : LineForm). entryCount g ≤ mostEntries) (sym (j .form)) (count-most s) in
+    let k = subst (λ (g : LineForm). entryCount g ≤ length (entriesOf s)) (sym (j .form)) (count-within s) in
     omega arith
+
+-- the entries of a line fit into the words that are cleared for them: as many as any line has, or none
+pub most-fit : (s : List ℕ) → length (entriesOf s) ≤ mostEntries
+most-fit s = omega (arith, entries-half s)
+
+pub none-fit : (s : List ℕ) → mayList s ≡ false → length (entriesOf s) ≤ 0
+none-fit s e = rw (entriesOf-none s e) (omega arith)
 
 -- ---- a line that was gathered
 
@@ -183,6 +189,19 @@ heldLine-whole x = heldLine-within x (length x) (omega arith) ∙ take-all (leng
 pub heldLine-long : (x : List ℕ) (n : ℕ) → length x < n → longestLine < length (heldLine x n)
 unfolding heldLine
 heldLine-long x n h = rw (lt-ltb (length x) n h) (omega (arith, length-replicate {A = ℕ} (suc longestLine) 0))
+
+-- how a line starts that the buffer gathered
+module _ (x : List ℕ) (n : ℕ) where
+  pub mayList-empty : n ≡ 0 → mayList (heldLine x n) ≡ false
+  unfolding heldLine
+  mayList-empty h = rw (mayList-is, h, le-ltb (length x) 0 (omega arith))
+
+  pub mayList-long : length x < n → mayList (heldLine x n) ≡ false
+  unfolding heldLine
+  mayList-long h = rw (mayList-is, lt-ltb (length x) n h)
+
+  pub mayList-first : 0 < n → n ≤ length x → mayList (heldLine x n) ≡ eqb (getD x 0 0) 97
+  mayList-first p h = rw (mayList-is, heldLine-within x n h, getD-take n x 0 0 p)
 
 -- judging the part of the buffer where the line is
 pub judged-held : (x : List ℕ) (n : ℕ) {o y : List ℕ} {r : LineForm} → n ≤ length x → Judged (take (n - 0) x) o y r

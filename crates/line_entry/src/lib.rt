@@ -1,5 +1,6 @@
 // The line entry: one line in, one answer line out.
 use answer_text::put_answer;
+use line_session::Done;
 use line_session::Session;
 use line_session::act;
 use line_session::in_session;
@@ -10,9 +11,10 @@ ghost use mathlib.Core.Path.{_≡_};
 ghost use mathlib.Core.Bool.{true};
 ghost use Prim.Native.Nat.{_≤_};
 ghost use lib.ListN.{length};
-ghost use Rattle.words.specs.Words.{mostEntries};
+ghost use Rattle.words.specs.Words.{ofLines};
 ghost use Rattle.rules.specs.Tables.{tables as tablesOf};
-ghost use Rattle.text_forms.specs.Judging.{Judged};
+ghost use Rattle.text_forms.specs.Judging.{entriesOf, mayList, Judged};
+ghost use Rattle.line_session.specs.Sessions.{inSession, Does};
 ghost use Rattle.line_entry.specs.Lines.{lentWell, lineDeed, entered, heldLine, entryOf, replyOf, Enters};
 
 // What the line entry answers: 1 if what it was lent is not as it must be, and then nothing was written, otherwise 0;
@@ -51,27 +53,98 @@ fn judge_held(line: &[u8], have: usize, list: &mut [u16]) -> LineForm
     judge(&line[0..have], list)
 }
 
-// The reply, where all that is lent is as it must be, and `list` has room for the entries of an async's list.
-fn answer_line(
+// Whether that line starts as one with a list does: with the first byte of the word `async`.
+fn may_list(line: &[u8], have: usize) -> bool
+    ensures { λ r. ⌜ r ≡ mayList (heldLine (now (line .entry)) have) ⌝ }
+{
+    if have == 0 {
+        return false;
+    }
+    if have <= line.len() {
+        return line[0] == 97;
+    }
+    false
+}
+
+// What the line does, where `list` has room for the entries of its list.
+fn act_with(
     line: &[u8],
     have: usize,
-    number: u32,
     session: Session,
     list: &mut [u16],
     tasks: &mut [u16],
     promises: &mut [u16],
     report: &mut [u16],
+) -> Done
+    requires { ⌜ (length (entriesOf (heldLine (now line) have)) ≤ length (now list)) × (inSession session ≡ true)
+        × (length (now tasks) ≡ ofLines .mostTasks) × (length (now promises) ≡ ofLines .mostPromises) ⌝ }
+    ensures { λ r. ⌜ Does (lineDeed (heldLine (now (line .entry)) have) session
+        (tablesOf (now (tasks .entry)) (now (promises .entry))) (length (now (report .entry)))) (now (report .entry))
+        r (tablesOf (now (tasks .exit)) (now (promises .exit))) (now (report .exit)) ⌝ }
+{
+    let form = judge_held(line, have, list);
+    act(form, list, session, tasks, promises, report)
+}
+
+// What any line does: the words that are cleared for its list are enough for any.
+fn act_listing(
+    line: &[u8],
+    have: usize,
+    session: Session,
+    tasks: &mut [u16],
+    promises: &mut [u16],
+    report: &mut [u16],
+) -> Done
+    requires { ⌜ (inSession session ≡ true) × (length (now tasks) ≡ ofLines .mostTasks)
+        × (length (now promises) ≡ ofLines .mostPromises) ⌝ }
+    ensures { λ r. ⌜ Does (lineDeed (heldLine (now (line .entry)) have) session
+        (tablesOf (now (tasks .entry)) (now (promises .entry))) (length (now (report .entry)))) (now (report .entry))
+        r (tablesOf (now (tasks .exit)) (now (promises .exit))) (now (report .exit)) ⌝ }
+{
+    let mut list = [0; Limit::ENTRIES];
+    act_with(line, have, session, &mut list, tasks, promises, report)
+}
+
+// The same, but words are cleared only for a line that may have a list.
+fn act_held(
+    line: &[u8],
+    have: usize,
+    session: Session,
+    tasks: &mut [u16],
+    promises: &mut [u16],
+    report: &mut [u16],
+) -> Done
+    requires { ⌜ (inSession session ≡ true) × (length (now tasks) ≡ ofLines .mostTasks)
+        × (length (now promises) ≡ ofLines .mostPromises) ⌝ }
+    ensures { λ r. ⌜ Does (lineDeed (heldLine (now (line .entry)) have) session
+        (tablesOf (now (tasks .entry)) (now (promises .entry))) (length (now (report .entry)))) (now (report .entry))
+        r (tablesOf (now (tasks .exit)) (now (promises .exit))) (now (report .exit)) ⌝ }
+{
+    if may_list(line, have) {
+        return act_listing(line, have, session, tasks, promises, report);
+    }
+    act_with(line, have, session, &mut [], tasks, promises, report)
+}
+
+// The reply, where all that is lent is as it must be.
+fn answer_line(
+    line: &[u8],
+    have: usize,
+    number: u32,
+    session: Session,
+    tasks: &mut [u16],
+    promises: &mut [u16],
+    report: &mut [u16],
     answer: &mut [u8],
 ) -> Entered
-    requires { ⌜ (lentWell number session (tablesOf (now tasks) (now promises))
-        (length (now report)) (length (now answer)) ≡ true) × (mostEntries ≤ length (now list)) ⌝ }
+    requires { ⌜ lentWell number session (tablesOf (now tasks) (now promises))
+        (length (now report)) (length (now answer)) ≡ true ⌝ }
     ensures { λ r. ⌜ Enters (entered number (now (report .entry)) (now (answer .entry))
         (lineDeed (heldLine (now (line .entry)) have) session (tablesOf (now (tasks .entry)) (now (promises .entry)))
         (length (now (report .entry)))))
         r (tablesOf (now (tasks .exit)) (now (promises .exit))) (now (report .exit)) (now (answer .exit)) ⌝ }
 {
-    let form = judge_held(line, have, list);
-    let done = act(form, list, session, tasks, promises, report);
+    let done = act_held(line, have, session, tasks, promises, report);
     let told = done.answer;
     let next = done.session;
     let bytes = put_answer(answer, number, told, report);
@@ -99,18 +172,7 @@ pub fn reply(
         r (tablesOf (now (tasks .exit)) (now (promises .exit))) (now (report .exit)) (now (answer .exit)) ⌝ }
 {
     if lent_well(number, session, tasks, promises, report.len(), answer.len()) {
-        let mut list = [0; Limit::ENTRIES];
-        return answer_line(
-            line,
-            have,
-            number,
-            session,
-            &mut list,
-            tasks,
-            promises,
-            report,
-            answer,
-        );
+        return answer_line(line, have, number, session, tasks, promises, report, answer);
     }
     Entered {
         number: 1,

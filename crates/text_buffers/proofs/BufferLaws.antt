@@ -152,6 +152,41 @@ wrote-added {s} {t} {o} {x} {y} {at} {r} w a =
       text = rw (fitting-append s t o) (a .text ∙ rw (p, q) (over-over f (fitting t (drop (length f) o)) o));
     }
 
+-- where a text was added, the buffer before its end and after it
+parted : {s o x : List ℕ} {at m : ℕ} → Added s o at x m
+    → (take m x ≡ take at o ++ fitting s (drop at o)) × (drop m x ≡ drop (length (fitting s (drop at o))) (drop at o))
+parted {s} {o} {x} {at} {m} a = go (decLt (length o) at)
+  where
+    f : List ℕ
+    f = fitting s (drop at o)
+
+    whole : x ≡ (take at o ++ f) ++ drop (length f) (drop at o)
+    whole = a .text ∙ rw (over-is f (drop at o)) (sym (append-assoc (take at o) f (drop (length f) (drop at o))))
+
+    go : Dec (length o < at) → (take m x ≡ take at o ++ f) × (drop m x ≡ drop (length f) (drop at o))
+    go (yes h) =
+        let d : drop at o ≡ [] = drop-of-length-le o {i = at} (omega arith) in
+        let e : f ≡ [] = rw d (fitting-full s [] refl) in
+        let l : m ≡ at = a .end ∙ rw e (omega arith) in
+        let w : x ≡ o =
+        whole ∙ rw (e, d, append-nil (take at o), append-nil (take at o), take-all at o (omega arith)) in
+        (rw (w, l, e, append-nil), rw (w, l, e, d))
+    go (no h) =
+        let l : m ≡ length (take at o ++ f) = a .end ∙ rw (length-append, length-take) (omega arith) in
+        (rw (whole, l, take-append-seam), rw (whole, l, drop-append-seam))
+
+pub added-added : {s t o x y : List ℕ} {at m r : ℕ} → Added s o at x m → Added t x m y r → Added (s ++ t) o at y r
+added-added {s} {t} {o} {x} {y} {at} {m} {r} a b =
+    let f = fitting s (drop at o) in
+    let (p, q) = parted a in
+    record {
+      end = rw (fitting-append s t (drop at o), length-append) (b .end ∙ rw (q, a .end) (omega arith));
+      text = rw (fitting-append s t (drop at o))
+          (b .text ∙ rw (p, q) (append-assoc (take at o) f _
+          ∙ ap (λ (z : List ℕ). take at o ++ z)
+          (over-over f (fitting t (drop (length f) (drop at o))) (drop at o))));
+    }
+
 -- ---- the rest of a buffer, lent
 
 pub rest-lent : (x : List ℕ) (at : ℕ) → take (length x - at) (drop at x) ≡ drop at x

@@ -5,5 +5,6 @@ pub mod First
 pub mod Column
 pub mod ReadBack
 pub mod JudgingLaws
+pub mod Unlisted
 pub mod Theorems
 pub mod Columns

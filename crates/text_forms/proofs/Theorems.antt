@@ -200,10 +200,14 @@ entries-half s = go (decLt longestLine (length s))
     go (no h) = let l : length s ≤ longestLine = omega arith in
         rw (entriesOf-within s l) (omega (arith, record-entries s (recordOf s)))
 
+-- lent words that are as many as the entries hold them all
+pub judged-fits : {s o x : List ℕ} {r : LineForm} → Judged s o x r → length (entriesOf s) ≤ length o
+    → x ≡ over (entriesOf s) o
+judged-fits {s} {o} j h = j .words ∙ ap (λ (t : List ℕ). over t o) (fitting-room (entriesOf s) o h)
+
 -- NOTHING IS CUT: 1,024 lent words hold the list of any line
 pub judged-whole : {s o x : List ℕ} {r : LineForm} → Judged s o x r → mostEntries ≤ length o → x ≡ over (entriesOf s) o
-judged-whole {s} {o} j h =
-    j .words ∙ ap (λ (t : List ℕ). over t o) (fitting-room (entriesOf s) o (omega (arith, entries-half s)))
+judged-whole {s} {o} j h = judged-fits j (omega (arith, entries-half s))
 
 fields-least : (ns : List ℕ) → AllSmall ns → 2 * length ns ≤ length (fieldsText ns)
 unfolding fieldsText
@@ -230,6 +234,16 @@ step-good e d q = let z : _≡_ {A = ℕ} 0 1 = cc in omega arith
 pub step-counts : (s : List ℕ) (k : Kind) (t c n : ℕ) → lineForm s ≡ F.Step k t c n → n ≡ length (entriesOf s)
 unfolding entryCount
 step-counts s k t c n e = sym (ap entryCount e) ∙ form-counts s (step-good e)
+
+-- and no form says more
+pub count-within : (s : List ℕ) → entryCount (lineForm s) ≤ length (entriesOf s)
+unfolding entryCount
+count-within s = go (lineForm s) refl
+  where
+    go : (f : LineForm) → lineForm s ≡ f → entryCount f ≤ length (entriesOf s)
+    go (F.Open a b) e = omega arith
+    go (F.Step k t c n) e = omega (arith, step-counts s k t c n e)
+    go (F.Bad c) e = omega arith
 
 -- an async has at most 1,019 entries
 pub entries-most : (s : List ℕ) (t c n : ℕ) → lineForm s ≡ F.Step Async t c n → n ≤ 1019

@@ -6,6 +6,7 @@
 --   entryCount f       how many entries it says its list has
 --   lineForm s         the form of the line s, or `Bad` with the column where it goes bad
 --   entriesOf s        the entries of the line's list
+--   mayList s          the line s starts as one with a list does
 --   IsForm f           the answer f is one of the forms
 --   InLine f           the answer f is one of them, or its column is at most the length limit
 --   Judged s o x r     the line s was judged with the words o lent for its list: x is what they hold then, and r the
@@ -14,17 +15,19 @@
 -- Assumes nothing.
 use Prim.Native.Nat.{ℕ, _+_, _≤_}
 use mathlib.Core.List.{List, [], _∷_}
-use mathlib.Core.Bool.{cond}
+use mathlib.Core.Bool.{Bool, cond}
 use mathlib.Core.Path.{_≡_}
-use lib.ListN.{length, drop}
-use lib.Dec.{ltb}
+use lib.ListN.{length, drop, getD}
+use lib.Dec.{eqb, ltb}
 use Rattle.words.specs.Words.{longestLine}
 use Rattle.words.specs.Lists.{over}
 use Rattle.text_buffers.specs.Buffers.{fitting}
 use Rattle.step_kinds.specs.Kinds.{shapeOf}
 use Rattle.step_kinds.specs.declared.Kind.{Kind}
+use Rattle.step_kinds.specs.declared.Kind.the-variants.{Async}
 use Rattle.step_kinds.specs.declared.Shape.{Shape}
 use Rattle.step_kinds.specs.declared.Shape.the-variants as H
+use Rattle.text_keywords.specs.Keywords.{textOf}
 use Rattle.text_keywords.specs.declared.Keyword.{Keyword}
 use Rattle.text_keywords.specs.declared.Keyword.the-variants as W
 use Rattle.text_records.specs.Records.{recordOf}
@@ -85,6 +88,10 @@ entriesIn s (R.Bad c) = []
 
 unfoldable pub entriesOf : List ℕ → List ℕ
 entriesOf s = cond (ltb longestLine (length s)) [] (entriesIn s (recordOf s))
+
+-- "async t c p..": only the word of async takes a list, so only a line with that word's first byte has one
+unfoldable pub mayList : List ℕ → Bool
+mayList s = eqb (getD s 0 0) (getD (textOf (W.Step Async)) 0 0)
 
 -- an answer that is one of the forms
 abbrev pub IsForm : LineForm → Type 0

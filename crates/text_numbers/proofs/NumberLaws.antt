@@ -1,18 +1,44 @@
 -- Laws of `numberIn` and `digitsFrom`, the reading half of specs/Numbers.antt: one for each way out of a step of a
 -- loop over the field, and that a bad byte's place lies within the field.
 -- Assumes nothing.
-use Prim.Native.Nat.{ℕ, suc, _+_, _*_, _≤_, _<_}
+use Prim.Native.Nat.{ℕ, suc, _+_, _-_, _*_, _≤_, _<_}
 use mathlib.Core.List.{List, [], _∷_}
-use mathlib.Core.Bool.{Bool, true, false}
+use mathlib.Core.Bool.{Bool, true, false, _||_}
 use lib.Dec.{ltb, leb, eqb}
 use mathlib.Core.Path.{_≡_, refl, sym}
 use native.Mathlib.Omega.{arith}
 use native.Mathlib.Numerals.{add-one}
-use borrow.Author.Tests.{eq-eqb, ne-eqb, lt-ltb, le-ltb, le-leb, lt-leb}
+use borrow.Author.Tests.{eq-eqb, ne-eqb, lt-ltb, le-ltb, le-leb, lt-leb, ltb-false}
 use lib.ListN.{length, drop, getD, drop-of-length-le}
 use lib.Seq.{drop-cons}
 use Rattle.text_numbers.specs.declared.Num.the-variants.{Is, Bad}
 use Rattle.text_numbers.specs.Numbers.{largest, digitOf, digitsFrom, afterZero, numberIn}
+
+-- ---- a digit
+
+-- the test that a byte is none
+pub digit-range : (b : ℕ) → (ltb b 48 || ltb 57 b) ≡ false → (48 ≤ b) × (b ≤ 57)
+digit-range b e = go (ltb b 48) refl (ltb 57 b) refl
+  where
+    go : (x : Bool) → ltb b 48 ≡ x → (y : Bool) → ltb 57 b ≡ y → (48 ≤ b) × (b ≤ 57)
+    go true p y q = let r = rw p at e in let z : _≡_ {A = ℕ} 0 1 = cc in absurd (omega arith)
+    go false p true q = let r = rw (p, q) at e in let z : _≡_ {A = ℕ} 0 1 = cc in absurd (omega arith)
+    go false p false q = (ltb-false b 48 p, ltb-false 57 b q)
+
+pub digitOf-is : (b : ℕ) → 48 ≤ b → b ≤ 57 → b - 48 ≡ digitOf b
+unfolding digitOf
+digitOf-is b h l = rw (le-ltb b 48 h, le-ltb 57 b l)
+
+pub digitOf-none : (b : ℕ) → (ltb b 48 || ltb 57 b) ≡ true → 10 ≤ digitOf b
+unfolding digitOf
+digitOf-none b e = go (ltb b 48) refl (ltb 57 b) refl
+  where
+    go : (x : Bool) → ltb b 48 ≡ x → (y : Bool) → ltb 57 b ≡ y → 10 ≤ digitOf b
+    go true p y q = rw p (omega arith)
+    go false p true q = rw (p, q) (omega arith)
+    go false p false q = let r = rw (p, q) at e in let z : _≡_ {A = ℕ} 0 1 = cc in absurd (omega arith)
+
+-- ---- the ways out
 
 pub numberIn-empty : (s : List ℕ) → length s ≡ 0 → numberIn s ≡ Bad 0
 unfolding afterZero numberIn

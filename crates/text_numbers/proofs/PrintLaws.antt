@@ -12,9 +12,10 @@ use borrow.Author.Tests.{ne-eqb, lt-ltb, le-ltb, le-leb, ltb-true, ltb-false, le
 use lib.Dec.{ltb, leb, eqb}
 use lib.ListN.{length, length-append}
 use Rattle.text_buffers.specs.Buffers.{Wrote, Added}
-use Rattle.text_buffers.proofs.BufferLaws.{wrote-none, wrote-added}
+use Rattle.text_buffers.proofs.BufferLaws.{wrote-none, wrote-added, added-added}
 use Rattle.text_numbers.specs.declared.Num.the-variants.{Is}
 use Rattle.text_numbers.specs.Numbers.{largest, digitOf, digitsFrom, afterZero, numberIn, decWithin, dec}
+use Rattle.text_numbers.specs.Numbers.{lastThree}
 use Rattle.text_numbers.proofs.NumberLaws.{never}
 
 lim : ℕ → ℕ
@@ -156,11 +157,11 @@ numberIn-printed (b ∷ s) n e = numberIn-printed-step b n s (eqb b 48) refl e
 
 -- ---- the printed form, by its last digit
 
-pub dec-small : (n : ℕ) → n < 10 → dec n ≡ (48 + n) ∷ []
+dec-small : (n : ℕ) → n < 10 → dec n ≡ (48 + n) ∷ []
 unfolding dec
 dec-small n h = dec-one 9 n h
 
-pub dec-step : (n : ℕ) → 10 ≤ n → n < 4294967296 → dec n ≡ dec (n / 10) ++ ((48 + n % 10) ∷ [])
+dec-step : (n : ℕ) → 10 ≤ n → n < 4294967296 → dec n ≡ dec (n / 10) ++ ((48 + n % 10) ∷ [])
 unfolding dec lim
 dec-step n h l = rw (dec-more 9 n h, fuel 8 (n / 10) (omega arith))
 
@@ -196,9 +197,50 @@ module _ (n : ℕ) where
 
 -- ---- the digits, written one after another
 
-pub digits-one : (n : ℕ) {o x : List ℕ} {r : ℕ} → n < 10 → Added ((48 + n) ∷ []) o 0 x r → Wrote (dec n) o x r
-digits-one n {o} h a = rw (dec-small n h) (wrote-added (wrote-none o) a)
+-- a number below ten has one digit, one below a hundred two, and one below a thousand three
+pub digits-one : (n : ℕ) {o x : List ℕ} {r : ℕ} → n < 10 → Added ((48 + n % 10) ∷ []) o 0 x r → Wrote (dec n) o x r
+digits-one n {o} h a =
+    let q : n % 10 ≡ n = omega arith in
+    rw (dec-small n h, ← q) (wrote-added (wrote-none o) a)
 
-pub digits-more : (n : ℕ) {o x y : List ℕ} {k r : ℕ} → 10 ≤ n → n < 4294967296 → Wrote (dec (n / 10)) o x k
-    → Added ((48 + n % 10) ∷ []) x k y r → Wrote (dec n) o y r
-digits-more n h l w a = rw (dec-step n h l) (wrote-added w a)
+module _ (n : ℕ) {o x y : List ℕ} {k r : ℕ} where
+  digits-more : 10 ≤ n → n < 4294967296 → Wrote (dec (n / 10)) o x k → Added ((48 + n % 10) ∷ []) x k y r
+      → Wrote (dec n) o y r
+  digits-more h l w a = rw (dec-step n h l) (wrote-added w a)
+
+  pub digits-two : 10 ≤ n → n < 100 → Added ((48 + (n / 10) % 10) ∷ []) o 0 x k → Added ((48 + n % 10) ∷ []) x k y r
+      → Wrote (dec n) o y r
+  digits-two h l a b = digits-more h (omega arith) (digits-one (n / 10) (omega arith) a) b
+
+-- the last three of them, one after another
+pub added-three : (n : ℕ) {o x y z : List ℕ} {at j k r : ℕ} → Added ((48 + (n / 100) % 10) ∷ []) o at x j
+    → Added ((48 + (n / 10) % 10) ∷ []) x j y k → Added ((48 + n % 10) ∷ []) y k z r → Added (lastThree n) o at z r
+unfolding lastThree
+added-three n a b c = added-added (added-added a b) c
+
+dec-hundreds : (n : ℕ) → 100 ≤ n → n < 4294967296
+    → dec n ≡ (dec (n / 100) ++ ((48 + (n / 10) % 10) ∷ [])) ++ ((48 + n % 10) ∷ [])
+dec-hundreds n h l =
+    let q : (n / 10) / 10 ≡ n / 100 = omega arith in
+    rw (dec-step n (omega arith) l, dec-step (n / 10) (omega arith) (omega arith), q)
+
+dec-three-digits : (n : ℕ) → 100 ≤ n → n < 1000 → dec n ≡ lastThree n
+unfolding lastThree
+dec-three-digits n h l =
+    let q : (n / 100) % 10 ≡ n / 100 = omega arith in
+    rw (dec-hundreds n h (omega arith), dec-small (n / 100) (omega arith), q)
+
+dec-thousands : (n : ℕ) → 1000 ≤ n → n < 4294967296 → dec n ≡ dec (n / 1000) ++ lastThree n
+unfolding lastThree
+dec-thousands n h l =
+    let q : (n / 100) / 10 ≡ n / 1000 = omega arith in
+    rw (dec-hundreds n (omega arith) l, dec-step (n / 100) (omega arith) (omega arith), q, append-assoc, append-assoc)
+
+pub digits-three : (n : ℕ) {o x : List ℕ} {r : ℕ} → 100 ≤ n → n < 1000 → Added (lastThree n) o 0 x r
+    → Wrote (dec n) o x r
+digits-three n {o} h l a = rw (dec-three-digits n h l) (wrote-added (wrote-none o) a)
+
+-- the number m of the thousands of n, and three digits more
+pub digits-thousands : (n m : ℕ) {o x y : List ℕ} {k r : ℕ} → m ≡ n / 1000 → 1000 ≤ n → n < 4294967296
+    → Wrote (dec m) o x k → Added (lastThree n) x k y r → Wrote (dec n) o y r
+digits-thousands n m q h l w a = rw (dec-thousands n h l, ← q) (wrote-added w a)

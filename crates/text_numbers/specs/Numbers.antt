@@ -4,6 +4,7 @@
 --   digitOf b          the value of the byte b as a digit; 10 if it is none
 --   numberIn s         the number that the field s holds, or the place of its first bad byte
 --   dec n              the printed form of n, for any n of 32 bits (line numbers go to 999999)
+--   lastThree n        the last three digits of n
 -- Theorems.antt: `numberIn s` is n exactly if s is `dec n` and n is at most 65535.
 -- Assumes nothing.
 use Prim.Native.Nat.{ℕ, zero, suc, _+_, _-_, _*_, _/_, _%_}
@@ -46,3 +47,7 @@ decWithin (suc f) n = cond (ltb n 10) ((48 + n) ∷ []) (decWithin f (n / 10) ++
 -- a number of 32 bits has at most 10 digits
 unfoldable pub dec : ℕ → List ℕ
 dec n = decWithin 10 n
+
+-- with zeros before them, if there are fewer
+unfoldable pub lastThree : ℕ → List ℕ
+lastThree n = (48 + (n / 100) % 10) ∷ (48 + (n / 10) % 10) ∷ (48 + n % 10) ∷ []

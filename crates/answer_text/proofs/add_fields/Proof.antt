@@ -1,7 +1,8 @@
 -- `answer_text::add_fields` meets its contract: the fields of each part follow those before it (`added-added`).
 -- Assumes nothing.
 use Rattle.answer_text.specs.AnswerText.{fieldsIn}
-use Rattle.answer_text.proofs.AnswerLaws.{fieldsText-append, added-added}
+use Rattle.text_buffers.proofs.BufferLaws.{added-added}
+use Rattle.answer_text.proofs.AnswerLaws.{fieldsText-append}
 use borrow.Author.Needs.{needs}
 use Rattle.answer_text.proofs.add_fields.Statement.{statement}
 use Rattle.answer_text.proofs.add_fields.Tie as tie

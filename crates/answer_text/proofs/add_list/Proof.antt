@@ -1,7 +1,8 @@
 -- `answer_text::add_list` meets its contract: the words of the report follow the count (`added-added`).
 -- Assumes nothing.
 use mathlib.Core.List.{[], _∷_}
-use Rattle.answer_text.proofs.AnswerLaws.{fieldsText-append, added-added}
+use Rattle.text_buffers.proofs.BufferLaws.{added-added}
+use Rattle.answer_text.proofs.AnswerLaws.{fieldsText-append}
 use borrow.Author.Needs.{needs}
 use Rattle.answer_text.proofs.add_list.Statement.{statement}
 use Rattle.answer_text.proofs.add_list.Tie as tie

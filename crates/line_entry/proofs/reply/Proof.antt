@@ -8,16 +8,13 @@ use Rattle.line_entry.proofs.reply.Tie as tie
 
 -- the place that the needs speak of
 abbrev passed : tie.After-answer-line-arg4 → tie.Then1
-passed c = c .before .before .before .before .before
+passed c = c .before .before .before .before
 
 lent-well-requires : tie.Need-lent-well-requires
 lent-well-requires c κs = search needs
 
-slice-aggregate-answer-line : tie.Need-slice-aggregate-answer-line
-slice-aggregate-answer-line c = search needs
-
 answer-line-requires : tie.Need-answer-line-requires
-answer-line-requires c κs = (sym (passed c .before .lent-well .ensures) ∙ passed c .if1 .taken, search needs)
+answer-line-requires c κs = sym (passed c .before .lent-well .ensures) ∙ passed c .if1 .taken
 
 same-length : tie.Need-same-length
 same-length c = search needs
@@ -34,7 +31,7 @@ same-length-4 c = search needs
 returns : tie.Need-returns
 unfolding entryOf
 returns c =
-    let answered = c .before .before .before .before .before .before .before .before .before in
+    let answered = c .before .before .before .before .before .before .before .before in
     let taken = passed (answered .before) in
     rw (← taken .before .lent-well .ensures, taken .if1 .taken) (answered .answer-line .ensures)
 
@@ -55,7 +52,6 @@ reply-spec =
     tie.close
     (tie.spec
     lent-well-requires
-    slice-aggregate-answer-line
     answer-line-requires
     same-length
     same-length-2

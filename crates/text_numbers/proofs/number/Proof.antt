@@ -2,11 +2,13 @@
 -- of the digits before it, still gives the answer; each way out of a turn is one law of `digitsFrom`.
 -- Assumes nothing.
 use Prim.Native.Nat.{_-_, _≤_}
-use mathlib.Core.Path.{_≡_, sym, _∙_}
+use mathlib.Core.Path.{_≡_, refl, sym, _∙_}
+use native.Mathlib.Omega.{arith}
 use borrow.Author.Needs.{needs}
-use lib.ListN.{length, drop}
+use lib.ListN.{length, drop, getD}
 use Rattle.text_numbers.specs.Numbers.{largest, digitsFrom, numberIn}
 use Rattle.text_numbers.proofs.NumberLaws.{numberIn-empty, numberIn-zero, numberIn-zero-more, numberIn-start}
+use Rattle.text_numbers.proofs.NumberLaws.{digit-range, digitOf-is, digitOf-none}
 use Rattle.text_numbers.proofs.NumberLaws.{digitsFrom-end, digitsFrom-stop, digitsFrom-over, digitsFrom-go}
 use Rattle.text_numbers.proofs.number.Statement.{statement}
 use Rattle.text_numbers.proofs.number.Tie as tie
@@ -32,29 +34,38 @@ returns-3 c = sym (numberIn-zero-more _ (c .before .if2 .taken) (c .if3 .left))
 loop-holds : tie.Need-loop-holds Inv-loop μ-loop
 loop-holds c = (search needs, search needs, sym (numberIn-start _ (c .before .before .if1 .left) (c .if2 .left)))
 
-shared-slice-read-digit : tie.Need-shared-slice-read-digit Inv-loop μ-loop
-shared-slice-read-digit c = search needs
-
-digit-requires : tie.Need-digit-requires Inv-loop μ-loop
-digit-requires c κs = search needs
+shared-slice-read-b : tie.Need-shared-slice-read-b Inv-loop μ-loop
+shared-slice-read-b c = search needs
 
 returns-4 : tie.Need-returns-4 Inv-loop μ-loop
 returns-4 c =
-    let b = c .before .before .before in
-    sym (digitsFrom-stop _ _ _ _ _ (c .before .digit .ensures) (b .loop-test .taken) (c .if4 .taken))
+    let b = c .before .before in
+    sym (digitsFrom-stop _ _ _ _ _ refl (b .loop-test .taken) (digitOf-none _ (c .if4 .taken)))
     ∙ b .before .loop .inv .2
 
 mul-w : tie.Need-mul-w Inv-loop μ-loop
 mul-w c = search needs
 
+-- the byte that was read is a digit
+read : (c : tie.Else4 Inv-loop μ-loop) → let turn = c .before .before .before in
+    let b = getD (turn .before .before .before .before .args .field .now) (turn .loop .i) 0 in (48 ≤ b) × (b ≤ 57)
+read c = digit-range _ (c .if4 .left)
+
+cast-w : tie.Need-cast-w Inv-loop μ-loop
+cast-w c = let d = read c in omega arith
+
+sub-w : tie.Need-sub-w Inv-loop μ-loop
+sub-w c = read c .0
+
 add-w : tie.Need-add-w Inv-loop μ-loop
-add-w c = search needs
+add-w c = let d = read c in omega (arith, c .before .before .before .loop .inv .1)
 
 returns-5 : tie.Need-returns-5 Inv-loop μ-loop
 returns-5 c =
-    let b = c .before .before .before .before in
-    sym (digitsFrom-over _ _ _ _ _ (c .before .before .digit .ensures) (b .loop-test .taken) (c .before .if4 .left)
-    (c .if5 .taken)) ∙ b .before .loop .inv .2
+    let b = c .before .before .before in
+    let d = read (c .before) in
+    sym (digitsFrom-over _ _ _ _ _ (digitOf-is _ (d .0) (d .1)) (b .loop-test .taken) (omega arith) (c .if5 .taken))
+    ∙ b .before .loop .inv .2
 
 add-i : tie.Need-add-i Inv-loop μ-loop
 add-i c = search needs
@@ -64,15 +75,16 @@ loop-less c = search needs
 
 loop-again : tie.Need-loop-again Inv-loop μ-loop
 loop-again c =
-    let b = c .before .before .before .before in (
+    let b = c .before .before .before in
+    let d = read (c .before) in (
       search needs,
       search needs,
-      sym (digitsFrom-go _ _ _ _ _ (c .before .before .digit .ensures) (b .loop-test .taken) (c .before .if4 .left)
-          (c .if5 .left)) ∙ b .before .loop .inv .2,
+      sym (digitsFrom-go _ _ _ _ _ (digitOf-is _ (d .0) (d .1)) (b .loop-test .taken) (omega arith) (c .if5 .left))
+          ∙ b .before .loop .inv .2,
     )
 
-cast-t17 : tie.Need-cast-t17 Inv-loop μ-loop
-cast-t17 c = search needs
+cast-t21 : tie.Need-cast-t21 Inv-loop μ-loop
+cast-t21 c = search needs
 
 returns-6 : tie.Need-returns-6 Inv-loop μ-loop
 returns-6 c = sym (digitsFrom-end _ _ _ _ (c .loop-test .left)) ∙ c .before .loop .inv .2
@@ -88,14 +100,15 @@ number-spec =
     returns-2
     returns-3
     loop-holds
-    shared-slice-read-digit
-    digit-requires
+    shared-slice-read-b
     returns-4
     mul-w
+    cast-w
+    sub-w
     add-w
     returns-5
     add-i
     loop-less
     loop-again
-    cast-t17
+    cast-t21
     returns-6)
