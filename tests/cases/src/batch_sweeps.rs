@@ -3,6 +3,7 @@
 use crate::batch_case::BatchCase;
 use crate::blamed_sweeps;
 use crate::part_sweeps;
+use crate::repeat_sweeps;
 use crate::room_sweeps;
 use crate::sound::{blamed_on, owned_by, waits_on, Words, ENDED, READY, SET};
 use crate::sweeps::worth_a_look;
@@ -24,6 +25,7 @@ pub fn sweep_batches(visit: &mut Visit) -> ControlFlow<()> {
     room_sweeps::too_many_records(visit)?;
     room_sweeps::full_batches(visit)?;
     part_sweeps::parts(visit)?;
+    repeat_sweeps::repeats_in_parts(visit)?;
     every_kind(visit)?;
     every_number(visit)?;
     tiny_pairs(visit)?;
