@@ -2,21 +2,20 @@
 //!
 //! Nanoseconds per call, median of several runs that take turns. Before each call
 //! the tables are put back; what that takes is measured too and left out.
-//! Then whole batches against the library's own single calls.
+//! Then the soundness test and async on tables and lists of several sizes, and
+//! whole batches against the library's own single calls.
 
 mod batches;
+mod growth;
 mod scenes;
 mod sides;
 mod timing;
 
 use scenes::{scene, Call};
-use sides::{library_call, plain_call, Lent};
-use timing::median_nanoseconds;
+use sides::{ratio, times};
 
 const SIZES: [(usize, usize); 3] = [(4, 8), (16, 64), (64, 256)];
 const CHAINS: [usize; 3] = [1, 8, 63];
-/// How many calls are timed in a row.
-const CALLS: u32 = 4_000;
 
 fn main() {
     println!("nanoseconds per call; a chain of k means that get finds k owners");
@@ -32,35 +31,19 @@ fn main() {
             }
         }
     }
+    growth::soundness_table();
+    growth::list_table();
     batches::table();
 }
 
 fn measure(tasks: &[u16], promises: &[u16], chain: usize, call: &Call) {
-    let mut lent = Lent::new(tasks, promises);
-    let expected = {
-        let number = library_call(&mut lent, call);
-        (number, lent.clone())
-    };
-    lent.put_back(tasks, promises);
-    let plain_number = plain_call(&mut lent, call, true);
-    let same_words =
-        (&lent.tasks, &lent.promises, &lent.report) == (&expected.1.tasks, &expected.1.promises, &expected.1.report);
-    assert!(plain_number == expected.0 && same_words, "library and plain code differ on {call:?}");
-    assert_eq!(plain_number, call.expected_number(), "{call:?} does not show what it is meant to");
-
-    let [library, plain, untested] = median_nanoseconds(
-        CALLS,
-        &mut lent,
-        &|lent| lent.put_back(tasks, promises),
-        [&|lent| library_call(lent, call), &|lent| plain_call(lent, call, true), &|lent| plain_call(lent, call, false)],
-    );
-    let ratio = |time: f64| if time > 0.0 { format!("{:.2}", library / time) } else { "-".to_string() };
+    let [library, plain, untested] = times(tasks, promises, call, call.expected_number());
     println!(
         "{:>3} {:>4} {chain:>6}  {:<12} {library:>9.0} {plain:>9.0} {untested:>15.0} {:>14} {:>16}",
         tasks.len(),
         promises.len(),
         call.name(),
-        ratio(plain),
-        ratio(untested)
+        ratio(library, plain),
+        ratio(library, untested)
     );
 }

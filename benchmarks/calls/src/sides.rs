@@ -1,31 +1,61 @@
 //! The same call on both sides: the proved library and the plain code.
 
 use crate::scenes::Call;
+use crate::timing::median_nanoseconds;
 use plain::registry::Answer;
 
-#[derive(Clone)]
-pub struct Lent {
-    pub tasks: Vec<u16>,
-    pub promises: Vec<u16>,
-    pub report: Vec<u16>,
+/// How many calls are timed in a row.
+const CALLS: u32 = 4_000;
+
+#[derive(Clone, PartialEq, Eq)]
+struct Lent {
+    tasks: Vec<u16>,
+    promises: Vec<u16>,
+    report: Vec<u16>,
     answer: [u16; 4],
 }
 
 impl Lent {
-    pub fn new(tasks: &[u16], promises: &[u16]) -> Lent {
+    fn new(tasks: &[u16], promises: &[u16]) -> Lent {
         let report = vec![0; promises.len() + 2 * tasks.len()];
         Lent { tasks: tasks.to_vec(), promises: promises.to_vec(), report, answer: [0; 4] }
     }
 
-    pub fn put_back(&mut self, tasks: &[u16], promises: &[u16]) {
+    fn put_back(&mut self, tasks: &[u16], promises: &[u16]) {
         self.tasks.copy_from_slice(tasks);
         self.promises.copy_from_slice(promises);
     }
 }
 
+/// The nanoseconds of the call by the library, by the plain code, and by this without its soundness test; both sides
+/// have first given the same words, and the number that is expected.
+pub fn times(tasks: &[u16], promises: &[u16], call: &Call, expected_number: u16) -> [f64; 3] {
+    let mut lent = Lent::new(tasks, promises);
+    let mut plain_lent = lent.clone();
+    let number = library_call(&mut lent, call);
+    let plain_number = plain_call(&mut plain_lent, call, true);
+    assert!(number == plain_number && lent == plain_lent, "library and plain code differ on {call:?}");
+    assert_eq!(number, expected_number, "{call:?} does not show what it is meant to");
+    median_nanoseconds(
+        CALLS,
+        &mut lent,
+        &|lent| lent.put_back(tasks, promises),
+        [&|lent| library_call(lent, call), &|lent| plain_call(lent, call, true), &|lent| plain_call(lent, call, false)],
+    )
+}
+
+/// One time as a share of another, as the tables tell it.
+pub fn ratio(time: f64, other: f64) -> String {
+    if other > 0.0 {
+        format!("{:.2}", time / other)
+    } else {
+        "-".to_string()
+    }
+}
+
 /// The number that the library's call returns.
 #[inline(never)]
-pub fn library_call(lent: &mut Lent, call: &Call) -> u16 {
+fn library_call(lent: &mut Lent, call: &Call) -> u16 {
     let Lent { tasks, promises, report, answer } = lent;
     match call {
         Call::IsSound => u16::from(library::is_sound(tasks, promises)),
@@ -41,7 +71,7 @@ pub fn library_call(lent: &mut Lent, call: &Call) -> u16 {
 
 /// The number that the plain call returns.
 #[inline(never)]
-pub fn plain_call(lent: &mut Lent, call: &Call, tests_soundness: bool) -> u16 {
+fn plain_call(lent: &mut Lent, call: &Call, tests_soundness: bool) -> u16 {
     let Lent { tasks, promises, report, answer } = lent;
     if let Call::IsSound = call {
         return u16::from(plain::sound::is_sound(tasks, promises));

@@ -1,5 +1,7 @@
 //! The inputs on which whole programs are measured.
 
+use crate::formless::{broken_lines, random_bytes};
+use crate::long_lists::lists_of_256;
 use cases::random::Random;
 use cases::sound::{READY, SET};
 use cases::step_choice::{choose, Taste};
@@ -10,12 +12,15 @@ type Input = (&'static str, fn() -> Vec<u8>);
 
 /// Every input, with its name, made as it is needed.
 pub fn all() -> impl Iterator<Item = (&'static str, Vec<u8>)> {
-    let inputs: [Input; 5] = [
+    let inputs: [Input; 8] = [
         ("gets of set promises, T=64 P=256", gets_of_set),
         ("gets of set promises beside a chain of 63", gets_beside_chain),
         ("mixed, T=64 P=256", mixed),
         ("mixed, T=8 P=32", mixed_small),
         ("rings of 64 asked for again and again", rings),
+        ("async lists of 256 promises", lists_of_256),
+        ("bad lines: random bytes", random_bytes),
+        ("bad lines: broken at any place", broken_lines),
     ];
     inputs.into_iter().map(|(name, make)| (name, make()))
 }

@@ -4,7 +4,9 @@
 //! All must give the same bytes before anything is measured. Runs alternate
 //! between the programs, and the median of each program's runs is told.
 
+mod formless;
 mod inputs;
+mod long_lists;
 mod timing;
 
 use std::process::exit;

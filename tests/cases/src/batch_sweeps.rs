@@ -2,7 +2,9 @@
 
 use crate::batch_case::BatchCase;
 use crate::blamed_sweeps;
+use crate::chain_sweeps::sweep_chains;
 use crate::part_sweeps;
+use crate::repeat_sweeps;
 use crate::room_sweeps;
 use crate::sound::{blamed_on, owned_by, waits_on, Words, ENDED, READY, SET};
 use crate::sweeps::worth_a_look;
@@ -24,6 +26,8 @@ pub fn sweep_batches(visit: &mut Visit) -> ControlFlow<()> {
     room_sweeps::too_many_records(visit)?;
     room_sweeps::full_batches(visit)?;
     part_sweeps::parts(visit)?;
+    repeat_sweeps::repeats_in_parts(visit)?;
+    chains(visit)?;
     every_kind(visit)?;
     every_number(visit)?;
     tiny_pairs(visit)?;
@@ -40,6 +44,20 @@ pub fn sweep_short_batches(visit: &mut Visit) -> ControlFlow<()> {
     pairs(visit)?;
     blamed_sweeps::blamed_within(visit)?;
     part_sweeps::long_lists(visit)
+}
+
+/// Some of the tables of chains and rings, lent to a batch of two steps.
+fn chains(visit: &mut Visit) -> ControlFlow<()> {
+    let mut number = 0;
+    sweep_chains(&mut |_, case| {
+        number += 1;
+        if number % 11 > 0 {
+            return ControlFlow::Continue(());
+        }
+        let words = Words { tasks: case.lent.tasks, promises: case.lent.promises };
+        let records = [[GET, 0, 0, 0, 0], [GET, words.tasks.len() as u16 / 2, 1, 0, 0]];
+        visit("chains and rings", batch(&words, &records, &[]))
+    })
 }
 
 /// Words that stand for any: no two neighbours are equal, and none is 0.

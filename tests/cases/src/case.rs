@@ -30,7 +30,7 @@ pub trait Subject {
     /// Called before the first step of a case.
     fn begin(&mut self) {}
     fn step(&mut self, step: &Step, lent: &mut Lent) -> Reply;
-    /// 1 for sound tables, 0 for damaged ones; T and P are within bounds.
+    /// 1 for sound tables, 0 for damaged ones and for those of lengths out of bounds.
     fn is_sound(&mut self, tasks: &[u16], promises: &[u16]) -> u8;
     fn fresh(&mut self, tasks: &mut Vec<u16>, promises: &mut Vec<u16>) -> Reply;
 }

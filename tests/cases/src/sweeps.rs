@@ -2,8 +2,11 @@
 
 use crate::blamed_sweeps;
 use crate::case::{Case, Lent};
+use crate::chain_sweeps::sweep_chains;
 use crate::damage::ring;
+use crate::place_sweeps::sweep_places;
 use crate::random::Random;
+use crate::repeat_sweeps::sweep_repeats;
 use crate::sound::{blamed_on, chain, owned_by, waits_on, Words, ENDED, READY, SET};
 use model::{Model, Step};
 use std::ops::ControlFlow;
@@ -17,7 +20,10 @@ pub fn sweep_all(visit: &mut Visit) -> ControlFlow<()> {
     blamed_sweeps::every_blamed(visit)?;
     blamed_sweeps::every_place(visit)?;
     rings(visit)?;
+    sweep_chains(visit)?;
+    sweep_places(visit)?;
     long_lists(visit)?;
+    sweep_repeats(visit)?;
     tiny_tables(visit)?;
     small_sound_tables(visit)?;
     every_number(visit)?;
@@ -43,7 +49,7 @@ pub(crate) fn case(words: &Words, step: Step) -> Case {
 }
 
 /// One step of each kind.
-fn each_kind(t: u16, p: u16, c: u16) -> [Step; 5] {
+pub(crate) fn each_kind(t: u16, p: u16, c: u16) -> [Step; 5] {
     [Step::New { t, p }, Step::Set { t, p }, Step::Get { t, p }, Step::Async { t, c, list: vec![p] }, Step::End { t }]
 }
 

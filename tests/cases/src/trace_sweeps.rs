@@ -4,6 +4,7 @@ use crate::blamed_sweeps::blamed_traces;
 use crate::column_sweeps::column_traces;
 use crate::long_lines::{line_of_length, Flaw};
 use crate::random::Random;
+use crate::repeat_sweeps::repeat_trace;
 use crate::trace_writer::TraceWriter;
 use crate::traces::chain_trace;
 use model::{Step, LINE_BYTES};
@@ -17,6 +18,7 @@ pub fn sweep_traces() -> Vec<(&'static str, Vec<u8>)> {
         traces.push(("ring of each length", chain_trace(&mut r, 64, 256, length).bytes));
     }
     traces.push(("longest answers", longest_answers()));
+    traces.push(("repeats in lists", repeat_trace()));
     traces.push(("every byte", every_byte()));
     traces.extend(every_number().map(|bytes| ("every number", bytes)));
     for length in (LINE_BYTES - 8..=LINE_BYTES + 8).chain([4095, 4096, 4097, 65535, 65536, 65537, 200_000]) {

@@ -16,6 +16,7 @@ mod bent_forgiven;
 mod bent_part;
 mod bent_told;
 mod bent_unblamed;
+mod bent_walks;
 mod column;
 mod fields;
 mod line;

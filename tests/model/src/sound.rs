@@ -31,7 +31,8 @@ impl Model {
     }
 
     fn meanings_are_sound(&self, tables: &Tables) -> bool {
-        let owners_live = tables.promises.iter().all(|&promise| match promise {
+        let looked_at = tables.promises.len().saturating_sub(self.slip(Twist::LastPromiseUnseen));
+        let owners_live = tables.promises[..looked_at].iter().all(|&promise| match promise {
             Promise::Owned(t) => {
                 tables.tasks[t].is_live()
                     || self.is(Twist::DeadOwnersAreSound)
@@ -40,10 +41,12 @@ impl Model {
             _ => true,
         });
         let awaited_owned = tables.tasks.iter().all(|&task| match task {
-            Task::Waits(p) => tables.owner(p).is_some() || self.is(Twist::AwaitedNeedNoOwner),
+            Task::Waits(p) => {
+                tables.owner(p).is_some() || self.is(Twist::AwaitedNeedNoOwner) || self.is(Twist::LostBehindStartIsGood)
+            }
             _ => true,
         });
-        let blamed_ended = tables.promises.iter().all(|&promise| match promise {
+        let blamed_ended = tables.promises[..looked_at].iter().all(|&promise| match promise {
             Promise::Blamed(t) => {
                 tables.tasks[t] == Task::Ended
                     || self.is(Twist::LiveBlamedIsSound) && tables.tasks[t].is_live()
@@ -52,11 +55,15 @@ impl Model {
             _ => true,
         });
         let has_live = tables.tasks.iter().any(|task| task.is_live()) || !self.is(Twist::NoLiveTaskIsDamaged);
-        owners_live
-            && awaited_owned
-            && blamed_ended
-            && has_live
-            && (0..tables.tasks.len()).all(|t| self.comes_to_ready(tables, t))
+        owners_live && awaited_owned && blamed_ended && has_live && self.chains_come(tables)
+    }
+
+    /// Whether every waiting task's chain comes to a ready task.
+    fn chains_come(&self, tables: &Tables) -> bool {
+        if self.walks_with_marks() {
+            return self.walks_end_well(tables);
+        }
+        (0..tables.tasks.len()).all(|t| self.comes_to_ready(tables, t))
     }
 
     /// Whether the chain of `t`, if it waits, comes to a ready task.

@@ -1,6 +1,6 @@
 //! The two tables as meanings, and their way from and to words.
 
-use crate::{Model, Promise, Task};
+use crate::{Model, Promise, Task, Twist};
 
 #[derive(Clone, PartialEq, Eq, Debug)]
 pub struct Tables {
@@ -47,10 +47,14 @@ impl Model {
     /// The meanings of two tables of words; nothing if a word has none.
     pub fn read_tables(&self, tasks: &[u16], promises: &[u16]) -> Option<Tables> {
         let task = |&word: &u16| self.read_task(word, promises.len());
-        let promise = |&word: &u16| self.read_promise(word, tasks.len());
+        let last = promises.len().wrapping_sub(1);
+        let promise = |(p, &word): (usize, &u16)| match self.read_promise(word, tasks.len()) {
+            None if p == last && self.is(Twist::LastPromiseUnseen) => Some(Promise::Set),
+            promise => promise,
+        };
         Some(Tables {
             tasks: tasks.iter().map(task).collect::<Option<_>>()?,
-            promises: promises.iter().map(promise).collect::<Option<_>>()?,
+            promises: promises.iter().enumerate().map(promise).collect::<Option<_>>()?,
         })
     }
 

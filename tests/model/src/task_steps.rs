@@ -47,16 +47,34 @@ impl Model {
                 break;
             }
             let told_place = place + self.slip(Twist::PlacesFromOne);
+            if place >= tables.promises.len() && self.is(Twist::UsedUpIsThirteen) {
+                return Err(Answer::RefusedAt(13, told_place));
+            }
             if let Err(refusal) = self.owned(tables, t, p as usize) {
                 return Err(refusal.at(told_place));
             }
-            let first = if self.is(Twist::RepeatsOnlyBeside) { place.saturating_sub(1) } else { 0 };
-            if list[first..place].contains(&p) && !self.is(Twist::RepeatsPass) {
+            if let Some(first) = self.named_before(&list[..place], p) {
                 let number = if self.is(Twist::RepeatIsNotOwner) { 10 } else { 13 };
+                let told_place = if self.is(Twist::RepeatTellsFirstPlace) { first } else { told_place };
                 return Err(Answer::RefusedAt(number, told_place));
             }
         }
         Ok(())
+    }
+
+    /// The place at which `p` was named among the entries before it.
+    fn named_before(&self, earlier: &[u16], p: u16) -> Option<usize> {
+        let last = earlier.len().checked_sub(1);
+        earlier.iter().enumerate().position(|(place, &entry)| match self.twist {
+            Twist::RepeatsPass => false,
+            Twist::RepeatsOnlyBeside => entry == p && Some(place) == last,
+            Twist::RepeatsNotBeside => entry == p && Some(place) != last,
+            Twist::RepeatsOfFirstOnly => entry == p && place == 0,
+            Twist::RepeatsNotOfFirst => entry == p && place > 0,
+            Twist::RepeatsInSixteenPlaces => entry == p && place + 16 >= earlier.len(),
+            Twist::RepeatMarksInSevenBits => entry % 128 == p % 128,
+            _ => entry == p,
+        })
     }
 
     pub(crate) fn end(&self, tables: &mut Tables, t: usize) -> Outcome {

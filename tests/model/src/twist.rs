@@ -58,6 +58,13 @@ twists! {
     AnyoneMaySet, InSteps, "10 is never given to an owned promise";
     RepeatsPass, InSteps, "13 is never given";
     RepeatsOnlyBeside, InSteps, "13 is given for neighbours alone";
+    RepeatsNotBeside, InSteps, "13 is not given for neighbours";
+    RepeatsOfFirstOnly, InSteps, "13 is given for the first entry named again alone";
+    RepeatsNotOfFirst, InSteps, "13 is not given for the first entry named again";
+    RepeatsInSixteenPlaces, InSteps, "13 looks back at 16 entries";
+    RepeatMarksInSevenBits, InSteps, "promises p and p + 128 are taken for one in a list";
+    RepeatTellsFirstPlace, InSteps, "13 tells the place that the promise was first named at";
+    UsedUpIsThirteen, InSteps, "an entry past as many as there are promises gives 13, whatever it is";
     EndedStartsAgain, InSteps, "an ended task may be a child";
     ClosedIsMadeAgain, InSteps, "a closed promise may be made again";
     TaskZeroMayNotEnd, InSteps, "task 0 may not end";
@@ -177,6 +184,20 @@ twists! {
     UnusedBlamedIsSound, InSteps, "a blamed task may be unused";
     NoLiveTaskIsDamaged, InSteps, "tables without a live task are damaged";
     LongTablesAreSound, InSteps, "the soundness test alone lets lengths out of bounds pass";
+    LastPromiseUnseen, InSteps, "the last promise's word is not looked at";
+    WordsByLowByte, InSteps, "promise words are looked up by their low byte";
+    AwaitedAtBound, InSteps, "task word 16+P has a meaning";
+
+    // Damage overlooked, or seen where there is none, by walks that leave marks.
+    OwnMarkIsGood, InSteps, "a walk that comes to its own mark ends well";
+    RingAtStartOnly, InSteps, "a walk from the last task on finds a ring only where it comes back to its start";
+    RingAtStartOnlyRising, InSteps, "a walk from task 0 on finds a ring only where it comes back to its start";
+    LostBehindStartIsGood, InSteps, "a way that is lost behind its start ends well";
+    WalksFromTaskOne, InSteps, "chains are followed from task 1 on";
+    WalksToLastButOne, InSteps, "the last task's chain is not followed";
+    MarksInFiveBits, InSteps, "tasks t and t + 32 share a mark";
+    HigherTaskEndsWalk, InSteps, "a walk that comes to a higher task ends well";
+    WalksWhereNobodyWaits, InSteps, "chains are followed only where nobody waits";
 
     // Wrong effects, answers and reports.
     OwnPromiseWaits, InSteps, "a task that gets its own promise waits";

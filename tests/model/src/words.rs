@@ -54,12 +54,14 @@ impl Model {
             2 => Some(Task::Ended),
             3 if self.is(Twist::Word3IsEnded) => Some(Task::Ended),
             _ if word >= WAITS_BASE && named < promises => Some(Task::Waits(named)),
+            _ if named == promises && self.is(Twist::AwaitedAtBound) => Some(Task::Ready),
             _ => None,
         }
     }
 
     /// The meaning of a promise word where there are `tasks` tasks, if it has one.
     pub fn read_promise(&self, word: u16, tasks: usize) -> Option<Promise> {
+        let word = if self.is(Twist::WordsByLowByte) { word % 256 } else { word };
         let owner = word.wrapping_sub(OWNED_BASE) as usize;
         let blamed = word.wrapping_sub(self.blamed_base()) as usize;
         match word {
