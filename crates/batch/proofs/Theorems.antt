@@ -1,6 +1,6 @@
 -- What is promised of a batch. F is any form whose owned and blamed words do not meet, list the lent list, s any
 -- tables, rs any records, m the report's length and k that of the answers. Assumes nothing.
-use Prim.Native.Nat.{ℕ, zero, suc, _≤_}
+use Prim.Native.Nat.{ℕ, zero, suc}
 use mathlib.Core.Path.{_≡_, refl, sym, ap, subst, _∙_}
 use mathlib.Core.List.{List, [], _∷_}
 use native.Mathlib.Omega.{arith}

@@ -1,51 +1,42 @@
 -- What the loop that judges an async list holds before entry i: the marks are at the promises that the entries before
 -- it name, and the first bad place of the list is that of its rest. A law for the start, a turn and each way out.
 -- Assumes nothing.
-use Prim.Native.Nat.{ℕ, zero, suc, _+_, _-_, _≤_, _<_}
+use Prim.Native.Nat.{ℕ, _+_, _-_, _≤_, _<_}
 use mathlib.Core.Path.{_≡_, refl, sym, _∙_}
 use mathlib.Core.Logic.{_≢_}
 use mathlib.Core.List.{List, [], _∷_}
-use mathlib.Core.Bool.{Bool, true, false, not, _&&_}
+use mathlib.Core.Bool.{Bool, true, false, not}
 use native.Mathlib.Omega.{arith}
-use native.Mathlib.Decide.{ℕ-discrete}
 use native.Mathlib.Nat.{sub-zero}
 use native.Mathlib.Numerals.{add-one}
 use borrow.Author.Tests.{eq-eqb, ne-eqb}
 use lib.ListN.{length, getD, set, replicate, length-set}
-use lib.Seq.{getD-set-same, getD-set-other}
 use Rattle.words.specs.Lists.{allBelow}
-use Rattle.words.proofs.ListLaws.{allBelow-none, allBelow-fails}
+use Rattle.words.proofs.BoolLaws.{and-true}
+use Rattle.words.proofs.ListLaws.{set-each, getD-replicate-same, allBelow-none, allBelow-fails}
 use Rattle.rules.specs.Refusals.{first, earlier, ownRows, differs, entryRefusal, firstBad}
 use Rattle.rules.proofs.RefusalLaws.{first-append, ownRows-numbered, ownRows-none, firstBad-step, firstBad-end}
 use Rattle.rules.proofs.PlaceLaws.{differs-hit, differs-miss}
 
 -- ---- the marks
 
-unmarked : (n q : ℕ) → getD (replicate n false) q false ≡ false
-unmarked zero q = refl
-unmarked (suc n) zero = refl
-unmarked (suc n) (suc q) = unmarked n q
-
-and-true : (b : Bool) → (b && true) ≡ b
-and-true true = refl
-and-true false = refl
-
 -- the first i entries name the promises that are marked, and no others
-abbrev Marked : List ℕ → List Bool → ℕ → Type 0
-Marked list seen i = (q : ℕ) → getD seen q false ≡ not (allBelow i (differs list q))
+abbrev Named : List ℕ → List Bool → ℕ → Type 0
+Named list seen i = (q : ℕ) → getD seen q false ≡ not (allBelow i (differs list q))
 
-mark-entry : (list : List ℕ) (seen : List Bool) (i e : ℕ) → getD list i 0 ≡ e → e < length seen → Marked list seen i
-    → Marked list (set seen e true) (i + 1)
+mark-entry : (list : List ℕ) (seen : List Bool) (i e : ℕ) → getD list i 0 ≡ e → e < length seen → Named list seen i
+    → Named list (set seen e true) (i + 1)
 unfolding allBelow
-mark-entry list seen i e is-e h old q = go (ℕ-discrete q e)
+mark-entry list seen i e is-e h old =
+    set-each (λ q b. b ≡ not (allBelow (i + 1) (differs list q))) seen e true false h new other
   where
-    go : Dec (q ≡ e) → getD (set seen e true) q false ≡ not (allBelow (i + 1) (differs list q))
-    go (yes z) =
-        let fails = allBelow-fails (differs list e) i (i + 1) (omega arith) (differs-hit list e i is-e) in
-        rw (z, getD-set-same seen e true false h, fails)
-    go (no n) =
+    new : true ≡ not (allBelow (i + 1) (differs list e))
+    new = rw (allBelow-fails (differs list e) i (i + 1) (omega arith) (differs-hit list e i is-e))
+
+    other : (q : ℕ) → q ≢ e → getD seen q false ≡ not (allBelow (i + 1) (differs list q))
+    other q n =
         let another = differs-miss list q i (λ z. n (sym z ∙ is-e)) in
-        getD-set-other seen e q true false n ∙ old q ∙ rw (add-one, another, and-true)
+        old q ∙ rw (add-one, another, and-true)
 
 -- ---- one entry
 
@@ -70,14 +61,14 @@ module _ (B : ℕ) (ps : List ℕ) (t : ℕ) (list : List ℕ) where
   pub record Judged (n : ℕ) (seen : List Bool) (i : ℕ) : Type 0 where
     pub within : i ≤ length list
     pub long : length seen ≡ n
-    pub marks : Marked list seen i
+    pub marks : Named list seen i
     pub rest : firstBad each (length list) 0 ≡ firstBad each (length list - i) i
 
   pub judged-start : (seen : List Bool) → seen ≡ replicate (length seen) false → Judged (length seen) seen 0
   judged-start seen e = record {
     within = omega arith;
     long = refl;
-    marks = λ q. rw (e, unmarked (length seen) q, allBelow-none (differs list q));
+    marks = λ q. rw (e, getD-replicate-same (length seen) q false, allBelow-none (differs list q));
     rest = rw sub-zero;
   }
 

@@ -3,13 +3,12 @@ use Prim.Native.Nat.{ℕ, suc, _+_, _-_, _≤_, _<_}
 use mathlib.Core.Path.{_≡_, refl, sym, ap, _∙_}
 use mathlib.Core.Logic.{_≢_}
 use mathlib.Core.List.{List}
-use mathlib.Core.Bool.{Bool, true, false}
+use mathlib.Core.Bool.{true, false}
 use native.Mathlib.Omega.{arith}
-use native.Mathlib.Decide.{decLt}
 use borrow.Author.Tests.{le-leb, lt-leb}
-use lib.ListN.{length, getD, set, replicate, length-set, length-replicate, getD-replicate, List·getD-eq-default}
+use lib.ListN.{length, getD, set, replicate, length-set}
 use Rattle.words.specs.Words.{firstWait}
-use Rattle.words.proofs.ListLaws.{set-each}
+use Rattle.words.proofs.ListLaws.{set-each, getD-replicate-same}
 use Rattle.rules.specs.Tables.{Tables, taskAt}
 use Rattle.rules.specs.Chains.{view}
 use Rattle.rules.specs.Sound.{ready, lost, to, hop, comes, comesInTime}
@@ -141,11 +140,4 @@ module _ (s : Tables) (v : ℕ) where
 
 -- no mark at all
 pub marked-none : (s : Tables) (n : ℕ) → Marked s (replicate n 0)
-marked-none s n = λ u h. absurd (h (zeros u))
-  where
-    zeros : (v : ℕ) → getD {A = ℕ} (replicate n 0) v 0 ≡ 0
-    zeros v = go (decLt v n)
-      where
-        go : Dec (v < n) → getD {A = ℕ} (replicate n 0) v 0 ≡ 0
-        go (yes h) = getD-replicate n v 0 0 h
-        go (no k) = List·getD-eq-default (replicate n 0) 0 (omega (arith, length-replicate {A = ℕ} n 0))
+marked-none s n = λ u h. absurd (h (getD-replicate-same n u 0))

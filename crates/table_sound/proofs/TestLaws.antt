@@ -1,6 +1,6 @@
 -- The soundness test in the order of work of the code: the words of the tasks, the words of the promises, and then the
 -- chains. Assumes nothing.
-use Prim.Native.Nat.{ℕ, _-_, _<_}
+use Prim.Native.Nat.{ℕ, _-_}
 use mathlib.Core.Path.{_≡_, refl, sym, _∙_}
 use mathlib.Core.Bool.{Bool, true, false, not, _&&_, _||_}
 use lib.Dec.{eqb, ltb}
@@ -9,7 +9,7 @@ use native.Mathlib.Omega.{arith}
 use borrow.Author.Tests.{lt-leb, ne-eqb, leb-true, ltb-true}
 use Rattle.words.specs.Words.{unusedWord, readyWord, endedWord, firstWait}
 use Rattle.words.specs.Lists.{allBelow}
-use Rattle.words.proofs.BoolLaws.{and-false}
+use Rattle.words.proofs.BoolLaws.{and-false, and-true}
 use Rattle.words.proofs.ListLaws.{allBelow-same, allBelow-and, allBelow-at, allBelow-make}
 use Rattle.rules.specs.Tables.{Tables, taskAt, waiting}
 use Rattle.rules.specs.Sound.{comesInTime, taskPasses, promisePasses, soundTest}
@@ -67,11 +67,7 @@ module _ (B : ℕ) (s : Tables) where
   module _ (t : words-of-tasks ≡ true) (p : words-of-promises ≡ true) where
     pub chains-decide : all-chains ≡ soundTest B s
     unfolding soundTest
-    chains-decide = rw (tasks-pass, t, p) (and-true all-chains)
-      where
-        and-true : (b : Bool) → b ≡ (b && true)
-        and-true true = refl
-        and-true false = refl
+    chains-decide = rw (tasks-pass, t, p) (sym (and-true all-chains))
 
     pub no-chains : everyWord idle (s .tasks) ≡ true → true ≡ soundTest B s
     unfolding chainPasses idle

@@ -7,7 +7,7 @@ use words::room_for;
 use words::sizes_in_bounds;
 ghost use mathlib.Core.Bool.{true};
 ghost use mathlib.Core.Path.{_≡_};
-ghost use Rattle.words.specs.Words.{small, Form};
+ghost use Rattle.words.specs.Words.{small};
 ghost use Rattle.rules.specs.Tables.{tables, sizesFit, inBounds};
 ghost use Rattle.rules.specs.Sound.{soundTest, isSound};
 ghost use Rattle.rules.specs.Refusals.{first, tableRows};

@@ -10,11 +10,11 @@ use native.Mathlib.Decide.{ℕ-discrete, decLt}
 use native.Mathlib.Numerals.{add-one}
 use lib.Dec.{eqb, leb, ltb}
 use borrow.Author.Tests.{lt-ltb, le-ltb, le-leb, lt-leb, ne-eqb, eq-eqb, eqb-true, leb-true, ltb-true}
-use lib.ListN.{length, getD, set, replicate, length-set, length-replicate, getD-replicate, List·getD-eq-default}
+use lib.ListN.{length, getD, set, replicate, length-set, length-replicate}
 use Rattle.words.specs.Words.{unusedWord, readyWord, endedWord, firstWait, unmadeWord, setWord, firstOwned}
 use Rattle.words.specs.Lists.{allBelow, is}
-use Rattle.words.proofs.BoolLaws.{and-yes, and-split, and-false, or-split, or-left, or-right, true-is-not-false}
-use Rattle.words.proofs.ListLaws.{set-each, allBelow-same, allBelow-at, allBelow-make}
+use Rattle.words.proofs.BoolLaws.{and-split, and-false, and-true, or-split, or-left, or-right, true-is-not-false}
+use Rattle.words.proofs.ListLaws.{set-each, getD-replicate-same, allBelow-same, allBelow-at, allBelow-make}
 use Rattle.rules.specs.Tables.{tables, live}
 use Rattle.rules.specs.Sound.{promiseWordPasses, promisePasses}
 use Rattle.table_words.specs.Allowed.{everyWord, taskWordPasses, below, allowed, noted, Noted, MayHold, Fills}
@@ -93,10 +93,6 @@ module _ (f : ℕ → Bool) (ts : List ℕ) (from : ℕ) where
   noting-end {i = i} r h = λ w. let e : i ≡ length ts = omega (arith, r .within) in rw (← e) (r .each w)
 
 -- ---- the largest word
-
-and-true : (b : Bool) → (b && true) ≡ b
-and-true true = refl
-and-true false = refl
 
 larger-below : (v w n : ℕ) → ltb (cond (ltb v w) w v) n ≡ (ltb v n && ltb w n)
 larger-below v w n = go (decLt v w) (decLt v n) (decLt w n)
@@ -189,19 +185,12 @@ opened-says n w h =
     set-each (λ j x. x ≡ (eqb j unmadeWord || eqb j setWord)) (set (replicate n false) unmadeWord true) setWord true false
     (omega (arith, length-set (replicate n false) unmadeWord true, length-replicate {A = Bool} n false)) refl other w
   where
-    nothing : (j : ℕ) → getD (replicate n false) j false ≡ false
-    nothing j = go (decLt j n)
-      where
-        go : Dec (j < n) → getD (replicate n false) j false ≡ false
-        go (yes k) = getD-replicate n j false false k
-        go (no k) = List·getD-eq-default (replicate n false) false (omega (arith, length-replicate {A = Bool} n false))
-
     other : (j : ℕ) → j ≢ setWord
         → getD (set (replicate n false) unmadeWord true) j false ≡ (eqb j unmadeWord || eqb j setWord)
     other j k =
         set-each (λ i x. i ≢ setWord → x ≡ (eqb i unmadeWord || eqb i setWord)) (replicate n false) unmadeWord true false
         (omega (arith, length-replicate {A = Bool} n false)) (λ z. refl)
-        (λ i z y. rw (ne-eqb i unmadeWord z, ne-eqb i setWord y) (nothing i)) j k
+        (λ i z y. rw (ne-eqb i unmadeWord z, ne-eqb i setWord y) (getD-replicate-same n i false)) j k
 
 -- at most one of three parts applies to a word: what it may be otherwise, its owner's, and who is blamed
 one-part : (a b x y st : Bool) → (a ≡ true → st ≡ false) → (b ≡ true → st ≡ false) → (a ≡ true → b ≡ false)

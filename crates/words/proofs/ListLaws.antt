@@ -10,7 +10,7 @@ use native.Mathlib.Numerals.{add-one}
 use native.Mathlib.Nat.{zero-add, add-zero, add-suc, suc-add, eq-or-lt-of-le, le-of-suc-le-suc}
 use lib.Dec.{eqb}
 use borrow.Author.Tests.{eq-eqb, ne-eqb, eqb-true}
-use lib.ListN.{length, getD, set, drop, length-map, List·getD-map, List·getD-eq-default, drop-of-length-le}
+use lib.ListN.{length, getD, set, drop, replicate, length-map, List·getD-map, List·getD-eq-default, drop-of-length-le}
 use lib.ListN.{length-append, length-drop}
 use lib.Seq.{drop-cons, sets, sets-eq, getD-set-same, getD-set-other}
 use Rattle.words.specs.Lists.{allBelow, is, places, changed, replaced, count, over, In, top, pop, Rising, none}
@@ -148,6 +148,12 @@ set-each {A} P l i a d h new old j = go (ℕ-discrete j i)
     go (yes e) =
         subst (λ (k : ℕ). P k (getD (set l i a) k d)) (sym e) (subst (P i) (sym (getD-set-same l i a d h)) new)
     go (no n) = subst (P j) (sym (getD-set-other l i j a d n)) (old j n)
+
+-- a list of one value reads as that value, past its end too
+pub getD-replicate-same : {A : Type 0} (n i : ℕ) (a : A) → getD (replicate n a) i a ≡ a
+getD-replicate-same zero i a = refl
+getD-replicate-same (suc n) zero a = refl
+getD-replicate-same (suc n) (suc i) a = getD-replicate-same n i a
 
 -- ---- places
 

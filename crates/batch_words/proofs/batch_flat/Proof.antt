@@ -2,7 +2,7 @@
 -- of them make of the tables lent (`Going`, as for `batch::batch`); the record of each turn is the one that its five
 -- words stand for. Assumes nothing.
 use mathlib.Core.Path.{_≡_, sym, _∙_}
-use Prim.Native.Nat.{_-_, _*_, _≤_, _<_}
+use Prim.Native.Nat.{_-_, _<_}
 use native.Mathlib.Omega.{arith}
 use borrow.Author.Needs.{needs}
 use lib.ListN.{length}

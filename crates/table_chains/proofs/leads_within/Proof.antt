@@ -1,6 +1,6 @@
 -- `table_chains::leads_within` meets its contract: a yes names the task to which the hop leads. Assumes nothing.
 use Prim.Native.Nat.{ℕ}
-use mathlib.Core.Path.{_≡_, sym, ap, _∙_}
+use mathlib.Core.Path.{sym, ap, _∙_}
 use native.Mathlib.Omega.{arith}
 use borrow.Author.Tests.{leb-true, ltb-true}
 use borrow.Author.Needs.{needs}

@@ -2,7 +2,6 @@
 use Prim.Native.Nat.{_-_}
 use mathlib.Core.Path.{refl}
 use native.Mathlib.Omega.{arith}
-use lib.ListN.{length, getD}
 use borrow.Author.Needs.{needs}
 use Rattle.words.proofs.LoopLaws.{Tested, tested-start, tested-turn, tested-end}
 use Rattle.words.proofs.Tests.{tests}

@@ -1,5 +1,5 @@
 -- `table_words::all_owned` meets its contract: a no says nothing, and a yes that every owner is live. Assumes nothing.
-use mathlib.Core.Path.{_≡_, sym, ap, _∙_}
+use mathlib.Core.Path.{sym, _∙_}
 use native.Mathlib.Omega.{arith}
 use borrow.Author.Tests.{not-false}
 use borrow.Author.Needs.{needs}

@@ -1,7 +1,6 @@
 -- `table_words::promises_may` meets its contract: each word is looked up, unless one is past the table's end or all are
 -- known to be good. Assumes nothing.
-use mathlib.Core.Path.{_≡_, sym, _∙_}
-use mathlib.Core.Bool.{true, false}
+use mathlib.Core.Path.{sym, _∙_}
 use native.Mathlib.Omega.{arith}
 use lib.ListN.{length}
 use borrow.Author.Tests.{lt-ltb, le-ltb}
