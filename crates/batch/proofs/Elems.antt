@@ -1,4 +1,5 @@
--- The names by which the carried derivations (tools/carry) cite the structs of the crate, and `put`. Definitions; assumes nothing.
+-- The names by which the carried derivations (tools/carry) cite the structs of the crate, and `put`. Definitions;
+-- assumes nothing.
 use Prim.Native.Nat.{ℕ, zero, suc}
 use mathlib.Core.List.{List, [], _∷_}
 use mir.Syntax.{Ty, w8, w16, w64}

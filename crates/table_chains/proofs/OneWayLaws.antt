@@ -1,4 +1,5 @@
--- Where every link leads to a task of a lower rank, no chain comes back, and each comes to a ready task. Assumes nothing.
+-- Where every link leads to a task of a lower rank, no chain comes back, and each comes to a ready task. Assumes
+-- nothing.
 use Prim.Native.Nat.{ℕ, zero, suc, _+_, _-_, _≤_, _<_}
 use mathlib.Core.Path.{_≡_, sym, ap, subst, _∙_}
 use mathlib.Core.Logic.{_⊎_, inl, inr}

@@ -182,14 +182,15 @@ opened-length may = length-set (set may unmadeWord true) setWord true ∙ length
 
 opened-says : (n w : ℕ) → 2 ≤ n → getD (opened (replicate n false)) w false ≡ (eqb w unmadeWord || eqb w setWord)
 opened-says n w h =
-    set-each (λ j x. x ≡ (eqb j unmadeWord || eqb j setWord)) (set (replicate n false) unmadeWord true) setWord true false
-    (omega (arith, length-set (replicate n false) unmadeWord true, length-replicate {A = Bool} n false)) refl other w
+    set-each (λ j x. x ≡ (eqb j unmadeWord || eqb j setWord)) (set (replicate n false) unmadeWord true) setWord true
+    false (omega (arith, length-set (replicate n false) unmadeWord true, length-replicate {A = Bool} n false)) refl
+    other w
   where
     other : (j : ℕ) → j ≢ setWord
         → getD (set (replicate n false) unmadeWord true) j false ≡ (eqb j unmadeWord || eqb j setWord)
     other j k =
-        set-each (λ i x. i ≢ setWord → x ≡ (eqb i unmadeWord || eqb i setWord)) (replicate n false) unmadeWord true false
-        (omega (arith, length-replicate {A = Bool} n false)) (λ z. refl)
+        set-each (λ i x. i ≢ setWord → x ≡ (eqb i unmadeWord || eqb i setWord)) (replicate n false) unmadeWord true
+        false (omega (arith, length-replicate {A = Bool} n false)) (λ z. refl)
         (λ i z y. rw (ne-eqb i unmadeWord z, ne-eqb i setWord y) (getD-replicate-same n i false)) j k
 
 -- at most one of three parts applies to a word: what it may be otherwise, its owner's, and who is blamed

@@ -11,8 +11,8 @@
 --   ownersUpTo w            how many tasks there are up to the owner w, if it is one
 --   OnlyOwners ts ps        every word of ps is unmade, set, or a live owner of ts
 --   allowed may w           the look-up table may says that w may stand in the promise table; no word past its end may
---   noted f ts from b w     what a table that says b of w says of it once it has noted, from the word `from` on, of each
---                           task of ts whether its word passes f
+--   noted f ts from b w     what a table that says b of w says of it once it has noted, from the word `from` on, of
+--                           each task of ts whether its word passes f
 --   Noted f ts from b a     the table b has become a by noting that
 --   MayHold B T may         may has room for the words of promises, where B is the first blamed word and there are T
 --                           tasks, and no word may stand there yet

@@ -13,7 +13,8 @@ ghost use Rattle.words.specs.Lists.{allBelow, is};
 ghost use Rattle.rules.specs.Tables.{tables, sizesFit, live};
 ghost use Rattle.rules.specs.Sound.{promisePasses};
 ghost use Rattle.table_words.specs.Allowed.{everyWord, taskWordPasses, idle, below, allowed};
-ghost use Rattle.table_words.specs.Allowed.{Noted, MayHold, Fills, LargestOf, liveAt, notBetween, ownersUpTo, OnlyOwners};
+ghost use Rattle.table_words.specs.Allowed.{LargestOf, liveAt, notBetween, ownersUpTo, OnlyOwners};
+ghost use Rattle.table_words.specs.Allowed.{Noted, MayHold, Fills};
 
 // Whether each task's word is one of these; `promises` is how many promises there are.
 pub fn task_words_pass(tasks: &[u16], promises: usize) -> bool

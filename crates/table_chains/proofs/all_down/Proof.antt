@@ -1,4 +1,5 @@
--- `table_chains::all_down` meets its contract. The loop keeps: the links of the tasks so far lead down. Assumes nothing.
+-- `table_chains::all_down` meets its contract. The loop keeps: the links of the tasks so far lead down. Assumes
+-- nothing.
 use Prim.Native.Nat.{ℕ, _-_, _<_}
 use mathlib.Core.Path.{sym}
 use native.Mathlib.Omega.{arith}

@@ -49,4 +49,14 @@ returns-2 c = λ z. all-lead-up _ (λ u b. c .before .loop .inv u (omega (arith,
 pub all-up-spec : {M : Type 1} → statement M
 all-up-spec =
     tie.close
-    (tie.spec Inv-loop μ-loop loop-holds add-leads-within leads-within-requires returns add-v loop-less loop-again returns-2)
+    (tie.spec
+    Inv-loop
+    μ-loop
+    loop-holds
+    add-leads-within
+    leads-within-requires
+    returns
+    add-v
+    loop-less
+    loop-again
+    returns-2)

@@ -34,14 +34,19 @@ chain-passes-requires c κs =
     (omega (arith, kept .0 .within, c .before .loop-test .taken), kept .2)
 
 same-length : tie.Need-same-length Inv-loop μ-loop
-same-length c = c .before .before .before .chain-passes .kept .1 .1 .0 ∙ c .before .before .before .before .before .before .loop .inv .1
+same-length c =
+    let tried = c .before .before .before in
+    tried .chain-passes .kept .1 .1 .0 ∙ tried .before .before .before .loop .inv .1
 
 returns : tie.Need-returns Inv-loop μ-loop
 returns c =
     let tried = c .before .before .before in
     let turn = tried .before .before in
     let r = tried .chain-passes in
-    sym (allBelow-fails _ (turn .before .loop .v - 1) _ (omega (arith, turn .before .loop .inv .0 .within, turn .loop-test .taken)) (sym (r .ensures .0) ∙ not-true (r .result) (c .if1 .taken)))
+    let kept = turn .before .loop .inv in
+    let fails = sym (r .ensures .0) ∙ not-true (r .result) (c .if1 .taken) in
+    sym
+    (allBelow-fails _ (turn .before .loop .v - 1) _ (omega (arith, kept .0 .within, turn .loop-test .taken)) fails)
 
 loop-less : tie.Need-loop-less Inv-loop μ-loop
 loop-less c = search (needs, tests)
@@ -54,7 +59,11 @@ loop-again c =
     let r = tried .chain-passes in
     let good = not-false (r .result) (c .if1 .left) in
     let same = r .kept .1 .1 .0 in
-    (testedFrom-turn _ _ (kept .0) (turn .loop-test .taken) (sym (r .ensures .0) ∙ good), same ∙ kept .1, record { room = omega (arith, same, kept .2 .room); fits = kept .2 .fits; marked = r .ensures .1 good })
+    let tested = testedFrom-turn _ _ (kept .0) (turn .loop-test .taken) (sym (r .ensures .0) ∙ good) in (
+      tested,
+      same ∙ kept .1,
+      record { room = omega (arith, same, kept .2 .room); fits = kept .2 .fits; marked = r .ensures .1 good },
+    )
 
 same-length-2 : tie.Need-same-length-2 Inv-loop μ-loop
 same-length-2 c = c .before .loop .inv .1

@@ -38,7 +38,8 @@ task-words-pass-requires c κs =
 returns : tie.Need-returns
 returns c =
     let tried = c .before .task-words-pass in
-    bad-task-word (small .base) (lent (c .before .before .before .before)) (sym (tried .ensures) ∙ not-true (tried .result) (c .if1 .taken))
+    let bad = sym (tried .ensures) ∙ not-true (tried .result) (c .if1 .taken) in
+    bad-task-word (small .base) (lent (c .before .before .before .before)) bad
 
 promises-pass-requires : tie.Need-promises-pass-requires
 promises-pass-requires c κs = search needs
@@ -46,7 +47,8 @@ promises-pass-requires c κs = search needs
 returns-2 : tie.Need-returns-2
 returns-2 c =
     let tried = c .before .promises-pass in
-    bad-promise-word (small .base) (lent (started (c .before .before))) (sym (tried .ensures) ∙ not-true (tried .result) (c .if2 .taken))
+    let bad = sym (tried .ensures) ∙ not-true (tried .result) (c .if2 .taken) in
+    bad-promise-word (small .base) (lent (started (c .before .before))) bad
 
 nobody-waits-requires : tie.Need-nobody-waits-requires
 nobody-waits-requires c κs = search needs
@@ -54,7 +56,8 @@ nobody-waits-requires c κs = search needs
 returns-3 : tie.Need-returns-3
 returns-3 c =
     let words = c .before .before in
-    no-chains (small .base) (lent (started (worded words))) (tasks-ok (worded words)) (promises-ok words) (sym (c .before .nobody-waits .ensures) ∙ c .if3 .taken)
+    no-chains (small .base) (lent (started (worded words))) (tasks-ok (worded words)) (promises-ok words)
+    (sym (c .before .nobody-waits .ensures) ∙ c .if3 .taken)
 
 chains-pass-requires : tie.Need-chains-pass-requires
 chains-pass-requires c κs = search needs
@@ -62,7 +65,8 @@ chains-pass-requires c κs = search needs
 returns-4 : tie.Need-returns-4
 returns-4 c =
     let words = c .before .before .before in
-    c .chains-pass .ensures ∙ chains-decide (small .base) (lent (started (worded words))) (tasks-ok (worded words)) (promises-ok words)
+    c .chains-pass .ensures
+    ∙ chains-decide (small .base) (lent (started (worded words))) (tasks-ok (worded words)) (promises-ok words)
 
 pub tables-pass-spec : {M : Type 1} → statement M
 tables-pass-spec =

@@ -1,4 +1,5 @@
--- `table_words::all_live` meets its contract. The loop keeps: `good` says whether every task so far is live. Assumes nothing.
+-- `table_words::all_live` meets its contract. The loop keeps: `good` says whether every task so far is live. Assumes
+-- nothing.
 use Prim.Native.Nat.{_-_}
 use mathlib.Core.Path.{refl}
 use native.Mathlib.Omega.{arith}

@@ -49,8 +49,8 @@ returns c =
     let ended = c .before .before in
     let noted = ended .before .before .before .before in
     let start = noted .before .before .before .before in
-    fills _ (start .args .tasks .now) (start .args .may .now) (noted .note-live .last .1 .0) (ended .note-ended .last .1 .0)
-    (start .pre) (noted .note-live .ensures) (ended .note-ended .ensures)
+    fills _ (start .args .tasks .now) (start .args .may .now) (noted .note-live .last .1 .0)
+    (ended .note-ended .last .1 .0) (start .pre) (noted .note-live .ensures) (ended .note-ended .ensures)
 
 pub fill-may-spec : {M : Type 1} → statement M
 fill-may-spec =

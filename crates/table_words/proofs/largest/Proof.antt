@@ -33,7 +33,9 @@ loop-less : tie.Need-loop-less Inv-loop μ-loop
 loop-less c = search (needs, tests)
 
 loop-again : tie.Need-loop-again Inv-loop μ-loop
-loop-again c = most-turn (c .before .before .before .loop .inv) (c .before .before .loop-test .taken) (c .larger .ensures)
+loop-again c =
+    let turn = c .before .before in
+    most-turn (turn .before .loop .inv) (turn .loop-test .taken) (c .larger .ensures)
 
 returns : tie.Need-returns Inv-loop μ-loop
 returns c = most-end (c .before .loop .inv) (omega arith)

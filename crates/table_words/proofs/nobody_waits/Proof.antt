@@ -1,4 +1,5 @@
--- `table_words::nobody_waits` meets its contract. The loop keeps: `good` says whether no task so far waits. Assumes nothing.
+-- `table_words::nobody_waits` meets its contract. The loop keeps: `good` says whether no task so far waits. Assumes
+-- nothing.
 use Prim.Native.Nat.{_-_}
 use mathlib.Core.Path.{refl}
 use native.Mathlib.Omega.{arith}
@@ -39,4 +40,6 @@ returns : tie.Need-returns Inv-loop μ-loop
 returns c = tested-end _ _ (c .before .loop .inv) (omega arith)
 
 pub nobody-waits-spec : {M : Type 1} → statement M
-nobody-waits-spec = tie.close (tie.spec Inv-loop μ-loop loop-holds mul-good shared-slice-read-good add-v loop-less loop-again returns)
+nobody-waits-spec =
+    tie.close
+    (tie.spec Inv-loop μ-loop loop-holds mul-good shared-slice-read-good add-v loop-less loop-again returns)

@@ -1,4 +1,5 @@
--- `table_words::none_between` meets its contract. The loop keeps: `good` says whether every word so far is unmade, set, or not below the owners. Assumes nothing.
+-- `table_words::none_between` meets its contract. The loop keeps: `good` says whether every word so far is unmade, set,
+-- or not below the owners. Assumes nothing.
 use Prim.Native.Nat.{_-_}
 use mathlib.Core.Path.{refl}
 use native.Mathlib.Omega.{arith}

@@ -1,5 +1,6 @@
 -- `table_words::promises_may` meets its contract: each word is looked up, unless one is past the table's end or all are
 -- known to be good. Assumes nothing.
+use Prim.Native.Nat.{_<_}
 use mathlib.Core.Path.{sym, _∙_}
 use native.Mathlib.Omega.{arith}
 use lib.ListN.{length}
@@ -40,7 +41,8 @@ look-up-requires c κs =
     let found = tested .before in
     let start = found .before .before .before .before in
     let n = length (start .args .may .now) in
-    let low = found .largest .ensures n (omega (arith, start .pre .apart, start .pre .room)) ∙ lt-ltb _ _ (tested .if1 .left) in
+    let some : 0 < n = omega (arith, start .pre .apart, start .pre .room) in
+    let low = found .largest .ensures n some ∙ lt-ltb _ _ (tested .if1 .left) in
     rw (filled .fill-may .kept .1 .0) low
 
 same-length : tie.Need-same-length
