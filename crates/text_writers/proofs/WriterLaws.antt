@@ -3,14 +3,21 @@
 -- Assumes nothing.
 use Prim.Native.Nat.{ℕ, zero, suc, _+_, _-_, _*_, _≤_, _<_, min}
 use mathlib.Core.List.{List, [], _∷_, _++_, append-assoc, append-nil}
-use mathlib.Core.Path.{_≡_, ap, sym}
+use mathlib.Core.Path.{_≡_, ap, sym, _∙_}
+use mathlib.Core.Bool.{true, false, _&&_}
 use native.Mathlib.Omega.{arith}
+use native.Mathlib.Decide.{decLt}
 use native.Mathlib.Numerals.{add-one}
 use native.Mathlib.Nat.{mul-suc, zero-min, min-zero, suc-min-suc}
-use lib.ListN.{length, take, drop, getD, length-append, length-drop, drop-of-length-le}
-use lib.Seq.{take-suc, take-nil}
-use Rattle.text_buffers.specs.Buffers.{Wrote, Added}
-use Rattle.text_buffers.proofs.BufferLaws.{wrote-none, wrote-added}
+use lib.ListN.{length, take, drop, getD, length-append, length-drop, length-take, take-append-drop}
+use lib.ListN.{drop-of-length-le}
+use lib.Seq.{take-suc, take-nil, take-all}
+use lib.Dec.{ltb}
+use borrow.Author.Tests.{ltb-true, ltb-false, lt-ltb}
+use Rattle.words.specs.Lists.{over}
+use Rattle.words.proofs.BoolLaws.{and-split}
+use Rattle.text_buffers.specs.Buffers.{fitting, Wrote, Added}
+use Rattle.text_buffers.proofs.BufferLaws.{fitting-past, wrote-none, wrote-length, wrote-added}
 use Rattle.text_numbers.proofs.PrintLaws.{dec-three, dec-five}
 use Rattle.text_writers.specs.Texts.{fieldText, fieldsText, stretchOf, Every, no-more, one-more}
 
@@ -21,6 +28,25 @@ pub bytes-more : (t : List ℕ) (i : ℕ) {o x y : List ℕ} {at r : ℕ} → i 
     → Added (getD t i 0 ∷ []) x at y r
     → Wrote (take (i + 1) t) o y r
 bytes-more t i h w a = rw (add-one, take-suc t i 0 h) (wrote-added w a)
+
+-- a place that two lists have
+pub within-both : (i n m : ℕ) → (ltb i n && ltb i m) ≡ true → (i < n) × (i < m)
+within-both i n m e = let (a, b) = and-split (ltb i n) (ltb i m) e in (ltb-true i n a, ltb-true i m b)
+
+-- there are no more bytes, or the buffer is full, and what follows would be cut
+pub bytes-end : (t : List ℕ) (i : ℕ) {o x : List ℕ} → i ≤ length t → (ltb i (length t) && ltb i (length x)) ≡ false
+    → Wrote (take i t) o x i → Wrote t o x i
+bytes-end t i {o} {x} h e w = go (decLt i (length t))
+  where
+    go : Dec (i < length t) → Wrote t o x i
+    go (yes b) =
+        let full : length x ≤ i = ltb-false i (length x) (rw (lt-ltb i (length t) b) at e) in
+        let n : length (take i t) ≡ min i (length t) = length-take i t in
+        let l : length o ≤ length (take i t) = omega (arith, wrote-length w) in
+        let whole = ap (λ (s : List ℕ). fitting s o) (take-append-drop i t) in
+        let f = sym (fitting-past (take i t) (drop i t) o l) ∙ whole in
+        record { count = w .count ∙ ap length f; text = w .text ∙ ap (λ (s : List ℕ). over s o) f }
+    go (no b) = rw (take-all i t (omega arith)) at w
 
 fieldsText-snoc : (ns : List ℕ) (n : ℕ) → fieldsText (ns ++ (n ∷ [])) ≡ fieldsText ns ++ fieldText n
 unfolding fieldsText

@@ -12,13 +12,12 @@ ghost use Rattle.text_writers.specs.Texts.{fieldText, fieldsText, stretc
 pub fn put_bytes(out: &mut [u8], text: &[u8]) -> usize
     ensures { λ r. ⌜ Wrote (now (text .entry)) (now (out .entry)) (now (out .exit)) r ⌝ }
 {
-    let mut at = 0;
     let mut i = 0;
-    while i < text.len() {
-        at = text_buffers::add_byte(out, at, text[i]);
+    while (i < text.len()) & (i < out.len()) {
+        out[i] = text[i];
         i += 1;
     }
-    at
+    i
 }
 
 // Writes a byte string from `at` on.
