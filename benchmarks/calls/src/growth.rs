@@ -20,11 +20,15 @@ enum Stand {
     Up(usize),
     /// So many tasks wait, each on the next lower one, down to task 0.
     Down(usize),
+    /// Of 64 tasks all but task 31 wait, each on the next higher one and the last on the first: one link leads down.
+    Round,
+    /// Of 64 tasks all but task 32 wait, in turn on a higher and on a lower one: 0 on 63, that on 1, that on 62.
+    Zigzag,
     /// In each eight tasks that follow each other seven wait, each on the next higher one.
     Eights,
 }
 
-const ROWS: [(usize, usize, Stand); 20] = [
+const ROWS: [(usize, usize, Stand); 22] = [
     (4, 8, Stand::AllReady),
     (16, 64, Stand::AllReady),
     (16, 256, Stand::AllReady),
@@ -44,6 +48,8 @@ const ROWS: [(usize, usize, Stand); 20] = [
     (64, 256, Stand::Down(32)),
     (64, 256, Stand::Up(63)),
     (64, 256, Stand::Down(63)),
+    (64, 256, Stand::Round),
+    (64, 256, Stand::Zigzag),
     (64, 256, Stand::Eights),
 ];
 
@@ -54,6 +60,8 @@ impl Stand {
             Stand::HalfEnded => "nobody waits, half ended".to_string(),
             Stand::Up(waiting) => format!("{waiting} wait, upwards"),
             Stand::Down(waiting) => format!("{waiting} wait, downwards"),
+            Stand::Round => "63 wait, one downwards".to_string(),
+            Stand::Zigzag => "63 wait, both ways in turn".to_string(),
             Stand::Eights => "chains of 8, upwards".to_string(),
         }
     }
@@ -64,6 +72,8 @@ impl Stand {
             Stand::AllReady | Stand::HalfEnded => None,
             Stand::Up(waiting) => (t < waiting).then_some(t + 1),
             Stand::Down(waiting) => (1..=waiting).contains(&t).then(|| t - 1),
+            Stand::Round => (t != 31).then_some((t + 1) % 64),
+            Stand::Zigzag => (t != 32).then_some(if t < 32 { 63 - t } else { 64 - t }),
             Stand::Eights => (t % 8 < 7).then_some(t + 1),
         }
     }
