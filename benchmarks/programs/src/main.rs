@@ -25,8 +25,8 @@ fn main() {
     ];
     println!("milliseconds, median of {RUNS} alternating runs; \"no test\" leaves the soundness test out");
     println!(
-        "{:<44} {:>8} {:>9} {:>9} {:>15} {:>8} {:>12} {:>14} {:>9}",
-        "input", "lines", "bench", "plain", "plain, no test", "wc -l", "bench/plain", "bench/no test", "bench/wc"
+        "{:<42} {:>7} {:>7} {:>7} {:>8} {:>6} {:>12} {:>14}",
+        "input", "lines", "bench", "plain", "no test", "wc -l", "bench/plain", "bench/no test"
     );
     for (name, input) in inputs::all() {
         let expected = jobs[0].output(&input);
@@ -40,10 +40,9 @@ fn main() {
         let times = median_times(&jobs, &input, RUNS);
         let [bench, plain, untested, wc] = times[..] else { unreachable!("one time for each of the four jobs") };
         println!(
-            "{name:<44} {lines:>8} {bench:>9.1} {plain:>9.1} {untested:>15.1} {wc:>8.1} {:>12.2} {:>14.2} {:>9.1}",
+            "{name:<42} {lines:>7} {bench:>7.1} {plain:>7.1} {untested:>8.1} {wc:>6.1} {:>12.2} {:>14.2}",
             bench / plain,
-            bench / untested,
-            bench / wc
+            bench / untested
         );
     }
 }
