@@ -4,7 +4,8 @@
 --   chainPasses s v    v does not wait, or its chain comes to a ready task
 --   Marked s ms        whoever is marked in ms has a chain that comes to a ready task
 --   MarksFor s ms      ms are such marks, with a word for each task, and no number of a task is too large for one
---   LeadsWithin s low high v   if v waits, a hop from it leads to a live task with a number from low on and below high
+--   Leads s low high v         a hop from v leads to a live task with a number from low on and below high
+--   LeadsWithin s low high v   the same, if v waits
 -- Assumes nothing.
 use Prim.Native.Nat.{ℕ, _≤_, _<_}
 use mathlib.Core.Path.{_≡_}

@@ -1,5 +1,5 @@
-// Whether every chain comes to a ready task. Each link is followed once: a walk marks the tasks on its way, and ends
-// where an earlier walk has been.
+// Whether every chain comes to a ready task. No link is walked twice: a walk marks the tasks on its way, and ends where
+// an earlier walk has been.
 use table_access::at;
 use table_hops::Next;
 use table_hops::hop;
@@ -61,7 +61,7 @@ fn chain_passes(tasks: &[u16], promises: &[u16], marks: &mut [u16], v: usize) ->
 }
 
 // Whether the chain of every waiting task comes to a ready task, from the last task to the first; `marks` has a word
-// for each task, and none is marked.
+// for each task, and whoever is marked at the start has such a chain.
 fn chains_marked(tasks: &[u16], promises: &[u16], marks: &mut [u16]) -> bool
     requires { ⌜ MarksFor (tables (now tasks) (now promises)) (now marks) ⌝ }
     ensures { λ r. ⌜ r ≡ allBelow (length (now (tasks .entry)))

@@ -15,13 +15,6 @@ pub enum Next {
     To(usize),
 }
 
-// A word as an index.
-fn wide(w: u16) -> usize
-    ensures { λ r. ⌜ r ≡ w ⌝ }
-{
-    w as usize
-}
-
 // The owner that a promise's word names, if it names one of `count` tasks.
 fn hop_owner(count: usize, w: u16) -> Next
     ensures { λ r. ⌜ hopRead r ≡ hopOwner count w ⌝ }
@@ -29,7 +22,7 @@ fn hop_owner(count: usize, w: u16) -> Next
     if w < PromiseWord::FIRST_OWNED {
         return Next::Lost;
     }
-    let u = wide(w - PromiseWord::FIRST_OWNED);
+    let u = (w - PromiseWord::FIRST_OWNED) as usize;
     if u < count {
         return Next::To(u);
     }
@@ -48,6 +41,6 @@ pub fn hop(tasks: &[u16], promises: &[u16], v: usize) -> Next
     if w < TaskWord::FIRST_WAIT {
         return Next::Lost;
     }
-    let p = wide(w - TaskWord::FIRST_WAIT);
+    let p = (w - TaskWord::FIRST_WAIT) as usize;
     hop_owner(tasks.len(), at(promises, p))
 }

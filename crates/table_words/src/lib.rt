@@ -45,13 +45,6 @@ pub fn nobody_waits(tasks: &[u16]) -> bool
     good
 }
 
-// A word as an index.
-fn wide(w: u16) -> usize
-    ensures { λ r. ⌜ r ≡ w ⌝ }
-{
-    w as usize
-}
-
 // The larger of two words.
 fn larger(v: u16, w: u16) -> u16
     ensures { λ r. ⌜ r ≡ cond (ltb v w) w v ⌝ }
@@ -111,7 +104,7 @@ fn owners_up_to(most: u16) -> usize
     if most < PromiseWord::FIRST_OWNED {
         return 0;
     }
-    wide(most - PromiseWord::FIRST_OWNED) + 1
+    (most - PromiseWord::FIRST_OWNED) as usize + 1
 }
 
 // A short way to a yes, where no promise is blamed and no task before the last owner is dead; `most` is the largest
@@ -163,7 +156,7 @@ fn look_up(promises: &[u16], may: &[bool]) -> bool
     let mut good = true;
     let mut q = 0;
     while q < promises.len() {
-        good = good & may[wide(promises[q])];
+        good = good & may[promises[q] as usize];
         q += 1;
     }
     good

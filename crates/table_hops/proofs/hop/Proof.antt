@@ -17,8 +17,8 @@ returns-2 : tie.Need-returns-2
 unfolding hop
 returns-2 c = rw (← c .before .before .at .ensures) (search (needs, tests))
 
-wide-requires : tie.Need-wide-requires
-wide-requires c κs = search needs
+cast-p : tie.Need-cast-p
+cast-p c = search needs
 
 at-requires-2 : tie.Need-at-requires-2
 at-requires-2 c κs = search needs
@@ -29,11 +29,10 @@ hop-owner-requires c κs = search needs
 returns-3 : tie.Need-returns-3
 unfolding hop
 returns-3 c =
-    let widened = c .before .before in
-    let waits = widened .before in
+    let waits = c .before .before in
     let unready = waits .before in
     rw (← unready .before .at .ensures, ne-eqb _ _ (unready .if1 .left), le-leb _ _ (waits .if2 .left))
-    (rw (← widened .wide .ensures, ← c .before .at2 .ensures) (c .hop-owner .ensures))
+    (rw (← c .before .at2 .ensures) (c .hop-owner .ensures))
 
 pub hop-spec : {M : Type 1} → statement M
 hop-spec =
@@ -42,7 +41,7 @@ hop-spec =
     at-requires
     returns
     returns-2
-    wide-requires
+    cast-p
     at-requires-2
     hop-owner-requires
     returns-3)

@@ -8,14 +8,14 @@ use Rattle.table_hops.proofs.hop_owner.Tie as tie
 returns : tie.Need-returns
 returns c = search (needs, tests)
 
-wide-requires : tie.Need-wide-requires
-wide-requires c κs = search needs
+cast-u : tie.Need-cast-u
+cast-u c = search needs
 
 returns-2 : tie.Need-returns-2
-returns-2 c = rw (← c .before .wide .ensures, le-leb _ _ (c .before .before .if1 .left), lt-ltb _ _ (c .if2 .taken))
+returns-2 c = rw (le-leb _ _ (c .before .if1 .left), lt-ltb _ _ (c .if2 .taken))
 
 returns-3 : tie.Need-returns-3
-returns-3 c = rw (← c .before .wide .ensures, le-leb _ _ (c .before .before .if1 .left), le-ltb _ _ (c .if2 .left))
+returns-3 c = rw (le-leb _ _ (c .before .if1 .left), le-ltb _ _ (c .if2 .left))
 
 pub hop-owner-spec : {M : Type 1} → statement M
-hop-owner-spec = tie.close (tie.spec returns wide-requires returns-2 returns-3)
+hop-owner-spec = tie.close (tie.spec returns cast-u returns-2 returns-3)

@@ -1,8 +1,7 @@
 -- `table_words::look_up` meets its contract. The loop keeps: `good` says whether every word so far may stand there.
 -- Assumes nothing.
-use Prim.Native.Nat.{ℕ, _-_}
-use mathlib.Core.Path.{ap}
-use mathlib.Core.Bool.{false}
+use Prim.Native.Nat.{_-_}
+use mathlib.Core.Path.{refl}
 use native.Mathlib.Omega.{arith}
 use lib.ListN.{length, getD}
 use borrow.Author.Needs.{needs}
@@ -22,24 +21,21 @@ abbrev μ-loop : tie.MeasureT-loop
 loop-holds : tie.Need-loop-holds Inv-loop μ-loop
 loop-holds c = tested-start _ _
 
-mul-wide : tie.Need-mul-wide Inv-loop μ-loop
-mul-wide c = search (needs, tests)
-
-shared-slice-read-wide : tie.Need-shared-slice-read-wide Inv-loop μ-loop
-shared-slice-read-wide c = search (needs, tests)
-
-wide-requires : tie.Need-wide-requires Inv-loop μ-loop
-wide-requires c κs = search (needs, tests)
+mul-good : tie.Need-mul-good Inv-loop μ-loop
+mul-good c = search (needs, tests)
 
 shared-slice-read-good : tie.Need-shared-slice-read-good Inv-loop μ-loop
-shared-slice-read-good c =
-    let widened = c .before in
-    let turn = widened .before .before in
-    let start = turn .before .before .before .before in
-    let fits =
+shared-slice-read-good c = search (needs, tests)
+
+cast-good : tie.Need-cast-good Inv-loop μ-loop
+cast-good c = omega (arith, c .shared-slice-known .given (c .before .before .loop .q))
+
+shared-slice-read-good-2 : tie.Need-shared-slice-read-good-2 Inv-loop μ-loop
+shared-slice-read-good-2 c =
+    let turn = c .before .before in
+    let start = turn .before .before in
     all-below-at (length (start .args .may .now)) (start .args .promises .now) (turn .before .loop .q) (start .pre)
-    (turn .loop-test .taken) in
-    omega (arith, widened .wide .ensures, fits)
+    (turn .loop-test .taken)
 
 add-q : tie.Need-add-q Inv-loop μ-loop
 add-q c = search (needs, tests)
@@ -49,12 +45,7 @@ loop-less c = search (needs, tests)
 
 loop-again : tie.Need-loop-again Inv-loop μ-loop
 unfolding allowed
-loop-again c =
-    let widened = c .before in
-    let turn = widened .before .before in
-    let start = turn .before .before .before .before in
-    tested-turn _ _ (turn .before .loop .inv) (turn .loop-test .taken)
-    (ap (λ (k : ℕ). getD (start .args .may .now) k false) (widened .wide .ensures))
+loop-again c = let turn = c .before .before in tested-turn _ _ (turn .before .loop .inv) (turn .loop-test .taken) refl
 
 returns : tie.Need-returns Inv-loop μ-loop
 returns c = tested-end _ _ (c .before .loop .inv) (omega arith)
@@ -66,10 +57,10 @@ look-up-spec =
     Inv-loop
     μ-loop
     loop-holds
-    mul-wide
-    shared-slice-read-wide
-    wide-requires
+    mul-good
     shared-slice-read-good
+    cast-good
+    shared-slice-read-good-2
     add-q
     loop-less
     loop-again
