@@ -18,7 +18,7 @@ use Rattle.rules.specs.declared.Answer.{Answer}
 use Rattle.rules.specs.declared.Answer.the-variants.{Refused}
 use Rattle.step_kinds.specs.declared.Kind.{Kind}
 use Rattle.steps.specs.Named.{stepBy}
-use Rattle.text_forms.specs.declared.LineForm.{LineForm as LineForm}
+use Rattle.text_forms.specs.declared.LineForm.{LineForm}
 use Rattle.text_forms.specs.declared.LineForm.the-variants as F
 use Rattle.text_forms.specs.Judging.{entryCount, lineForm, entriesOf, mayList, InLine, Judged}
 use Rattle.text_forms.proofs.JudgingLaws.{lineForm-long, entriesOf-long}
