@@ -1,6 +1,6 @@
 -- `table_chains::chains_marked` meets its contract. The loop keeps: the tasks from v on pass, and the marks say what is
 -- known. Assumes nothing.
-use Prim.Native.Nat.{_-_}
+use Prim.Native.Nat.{_-_, _<_}
 use mathlib.Core.Path.{_≡_, refl, sym, _∙_}
 use native.Mathlib.Omega.{arith}
 use lib.ListN.{length}
@@ -59,7 +59,8 @@ loop-again c =
     let r = tried .chain-passes in
     let good = not-false (r .result) (c .if1 .left) in
     let same = r .kept .1 .1 .0 in
-    let tested = testedFrom-turn _ _ (kept .0) (turn .loop-test .taken) (sym (r .ensures .0) ∙ good) in (
+    let some : 0 < turn .before .loop .v = omega (arith, turn .loop-test .taken) in
+    let tested = testedFrom-turn _ _ (kept .0) some (sym (r .ensures .0) ∙ good) in (
       tested,
       same ∙ kept .1,
       record { room = omega (arith, same, kept .2 .room); fits = kept .2 .fits; marked = r .ensures .1 good },
@@ -69,7 +70,7 @@ same-length-2 : tie.Need-same-length-2 Inv-loop μ-loop
 same-length-2 c = c .before .loop .inv .1
 
 returns-2 : tie.Need-returns-2 Inv-loop μ-loop
-returns-2 c = testedFrom-end _ _ (c .before .loop .inv .0) (c .loop-test .left)
+returns-2 c = testedFrom-end _ _ (c .before .loop .inv .0) (omega (arith, c .loop-test .left))
 
 pub chains-marked-spec : {M : Type 1} → statement M
 chains-marked-spec =

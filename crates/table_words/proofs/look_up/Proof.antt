@@ -35,7 +35,7 @@ shared-slice-read-good-2 c =
     let turn = c .before .before in
     let start = turn .before .before in
     all-below-at (length (start .args .may .now)) (start .args .promises .now) (turn .before .loop .q) (start .pre)
-    (turn .loop-test .taken)
+    (omega (arith, turn .loop-test .taken))
 
 add-q : tie.Need-add-q Inv-loop μ-loop
 add-q c = search (needs, tests)
@@ -45,7 +45,9 @@ loop-less c = search (needs, tests)
 
 loop-again : tie.Need-loop-again Inv-loop μ-loop
 unfolding allowed
-loop-again c = let turn = c .before .before in tested-turn _ _ (turn .before .loop .inv) (turn .loop-test .taken) refl
+loop-again c =
+    let turn = c .before .before in
+    tested-turn _ _ (turn .before .loop .inv) (omega (arith, turn .loop-test .taken)) refl
 
 returns : tie.Need-returns Inv-loop μ-loop
 returns c = tested-end _ _ (c .before .loop .inv) (omega arith)
