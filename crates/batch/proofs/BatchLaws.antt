@@ -89,7 +89,7 @@ module _ (F : Form) (s : Tables) (n m k : ℕ) (e : first (call_rows F s n m k) 
       let b = call_roomy.sizes in
       record {
         sizes = sizes_fit_of F s b;
-        sound = test_means_sound F.base s (omega (arith, apart.words, b.tasks)) call_rows_none.1;
+        sound = test_means_sound F.base s (omega (arith, apart, b.tasks)) call_rows_none.1;
       }
 
 -- ---- the two outcomes of a call

@@ -42,18 +42,18 @@ length_given w [] ps = refl
 length_given w (q ∷ l) ps = length_given w l (set ps q w) ∙ length-set ps q w
 
 -- what a step has found in the tables, and the tables after it: it left them as they were, or nothing stood against it
-pub data Did (F : Form) (s : Tables) : Step → Tables → Type 0 where
-  nothing : {x : Step} → Did F s x s
+pub data Did (B : ℕ) (s : Tables) : Step → Tables → Type 0 where
+  nothing : {x : Step} → Did B s x s
   made : {t p : ℕ} → Acts s.tasks t → p < length s.promises → promise_at s p ≡ unmade_word
-      → Did F s (step_new t p) (with_made s t p)
+      → Did B s (step_new t p) (with_made s t p)
   was_set : {t p : ℕ} → Acts s.tasks t → p < length s.promises → promise_at s p ≡ owned_by t
-      → Did F s (step_set t p) (with_set s p)
+      → Did B s (step_set t p) (with_set s p)
   waited : {t p : ℕ} (k : ℕ) → Acts s.tasks t → p < length s.promises → promise_at s p ≢ unmade_word
-      → (got F.base s t p (promise_at s p)).answer ≡ Waits k → Did F s (step_get t p) (with_wait s t p)
+      → (got B s t p (promise_at s p)).answer ≡ Waits k → Did B s (step_get t p) (with_wait s t p)
   began : {t c : ℕ} {list : List ℕ} → Acts s.tasks t → c < length s.tasks → task_at s c ≡ unused_word
       → ((q : ℕ) → In q list → (q < length s.promises) × (promise_at s q ≡ owned_by t))
-      → Did F s (step_async t c list) (with_started s c list)
-  has_ended : {t : ℕ} → Acts s.tasks t → Did F s (step_end t) (with_ended (blamed_on F.base t) s t)
+      → Did B s (step_async t c list) (with_started s c list)
+  has_ended : {t : ℕ} → Acts s.tasks t → Did B s (step_end t) (with_ended B s t)
 
 -- every entry of a list that has no bad place is the actor's own
 pub entries_good : (B : ℕ) (s : Tables) (t : ℕ) (list : List ℕ)
@@ -68,17 +68,17 @@ entries_good B s t list h q i =
 
 module _ (F : Form) (s : Tables) where
   did_get : (t p : ℕ) → first (rows F s (step_get t p)) ≡ 0
-      → Did F s (step_get t p) (got F.base s t p (promise_at s p)).after
+      → Did F.base s (step_get t p) (got F.base s t p (promise_at s p)).after
   did_get t p z =
       let (a, z₁) = actor_rows_none s.tasks t (get_rows s.promises p) z in
       let (b, m) = get_rows_none s.promises p z₁ in
       got_cases
       (λ (o : Outcome).
-      (got F.base s t p (promise_at s p)).answer ≡ o.answer → Did F s (step_get t p) o.after)
+      (got F.base s t p (promise_at s p)).answer ≡ o.answer → Did F.base s (step_get t p) o.after)
       F.base s t p (promise_at s p)
       (λ e. nothing) (λ x e. nothing) (λ k e. nothing) (λ k e. waited k a b m e) refl
 
-  did_effect : (x : Step) → first (rows F s x) ≡ 0 → Did F s x (effect F s x).after
+  did_effect : (x : Step) → first (rows F s x) ≡ 0 → Did F.base s x (effect F s x).after
   did_effect (step_new t p) z =
       let (a, z₁) = actor_rows_none s.tasks t (new_rows s.promises p) z in
       let (b, c) = new_rows_none s.promises p z₁ in
@@ -91,16 +91,16 @@ module _ (F : Form) (s : Tables) where
   did_effect (step_async t c list) z =
       let (a, z₁) = actor_rows_none s.tasks t (child_rows s.tasks c) z in
       let (b, d) = child_rows_none s.tasks c z₁ in
-      started_by (λ (o : Outcome). Did F s (step_async t c list) o.after) F.base s t c list _
+      started_by (λ (o : Outcome). Did F.base s (step_async t c list) o.after) F.base s t c list _
       (λ h. nothing) (λ h. began a b d (entries_good F.base s t list h))
   did_effect (step_end t) z = has_ended (actor_rows_none s.tasks t [] z).0
 
   -- each step of any task, with any numbers, refused and alarmed ones too, by the rules without refusals 1 and 2
-  pub did_raw : (x : Step) → Did F s x (raw F s x).after
-  did_raw x = guarded_is _ (first (rows F s x)) s (effect F s x) (Did F s x) nothing (did_effect x)
+  pub did_raw : (x : Step) → Did F.base s x (raw F s x).after
+  did_raw x = guarded_is _ (first (rows F s x)) s (effect F s x) (Did F.base s x) nothing (did_effect x)
 
 -- the tables stay as long as they were
-did_lengths : {F : Form} {s s' : Tables} {x : Step} → Did F s x s' → AsLong s' s
+did_lengths : {B : ℕ} {s s' : Tables} {x : Step} → Did B s x s' → AsLong s' s
 did_lengths {s = s} nothing = as_long s
 did_lengths {s = s} (made {t = t} {p = p} a b c) = long_promises s (length-set s.promises p (owned_by t))
 did_lengths {s = s} (was_set {p = p} a b c) =
@@ -108,10 +108,10 @@ did_lengths {s = s} (was_set {p = p} a b c) =
 did_lengths {s = s} (waited {t = t} {p = p} k a b m e) = long_tasks s (length-set s.tasks t (waits_on p))
 did_lengths {s = s} (began {c = c} {list = list} a b d good) =
     long_words s (length-set s.tasks c ready_word) (length_given (owned_by c) list s.promises)
-did_lengths {F = F} {s = s} (has_ended {t = t} a) =
+did_lengths {B = B} {s = s} (has_ended {t = t} a) =
     long_words s
-    (length-set (woken F.base s t) t ended_word ∙ length_replaced (awaits s.promises (owned_by t)) ready_word s.tasks)
-    (length_replaced (is (owned_by t)) (blamed_on F.base t) s.promises)
+    (length-set (woken B s t) t ended_word ∙ length_replaced (awaits s.promises (owned_by t)) ready_word s.tasks)
+    (length_replaced (is (owned_by t)) (blamed_on B t) s.promises)
 
 -- whatever refused the step before its own rows
 pub lengths_kept : (F : Form) (s : Tables) (x : Step) (r : ℕ) → AsLong (guarded by_number r s (raw F s x)).after s
@@ -119,21 +119,21 @@ lengths_kept F s x r =
     guarded_is _ r s (raw F s x) (λ (y : Tables). AsLong y s) (as_long s) (λ z. did_lengths (did_raw F s x))
 
 -- their words are as they were, or move as `Moves` says
-pub did_moves : {F : Form} {s s' : Tables} {x : Step} → Did F s x s'
-    → (s' ≡ s) ⊎ Moves (length s.tasks) (length s.promises) F.base (view s) (view s') (actor x)
+pub did_moves : {B : ℕ} {s s' : Tables} {x : Step} → Did B s x s'
+    → (s' ≡ s) ⊎ Moves (length s.tasks) (length s.promises) B (view s) (view s') (actor x)
 did_moves nothing = inl refl
-did_moves {F = F} {s = s} (made {t = t} {p = p} a b c) =
-    inr (new_moves (length s.tasks) (length s.promises) F.base s t a.below a.ready p b c)
-did_moves {F = F} {s = s} (was_set {t = t} {p = p} a b c) =
-    inr (set_moves (length s.tasks) (length s.promises) F.base s t a.below a.ready p b c)
-did_moves {F = F} {s = s} (waited {t = t} {p = p} k a b m e) =
-    inr (get_moves (length s.tasks) (length s.promises) F.base s t a.below a.ready p b a.below)
-did_moves {F = F} {s = s} (began {t = t} {c = c} {list = list} a b d good) =
+did_moves {B = B} {s = s} (made {t = t} {p = p} a b c) =
+    inr (new_moves (length s.tasks) (length s.promises) B s t a.below a.ready p b c)
+did_moves {B = B} {s = s} (was_set {t = t} {p = p} a b c) =
+    inr (set_moves (length s.tasks) (length s.promises) B s t a.below a.ready p b c)
+did_moves {B = B} {s = s} (waited {t = t} {p = p} k a b m e) =
+    inr (get_moves (length s.tasks) (length s.promises) B s t a.below a.ready p b a.below)
+did_moves {B = B} {s = s} (began {t = t} {c = c} {list = list} a b d good) =
     inr
-    (async_moves (length s.tasks) (length s.promises) F.base s t a.below a.ready c b b d list
+    (async_moves (length s.tasks) (length s.promises) B s t a.below a.ready c b b d list
     (λ q i. (good q i).0) (λ q i. (good q i).1))
-did_moves {F = F} {s = s} (has_ended {t = t} a) =
-    inr (end_moves (length s.tasks) (length s.promises) F.base s t a.below a.ready a.below)
+did_moves {B = B} {s = s} (has_ended {t = t} a) =
+    inr (end_moves (length s.tasks) (length s.promises) B s t a.below a.ready a.below)
 
 -- what get does with a set, a blamed and an owned promise
 module _ (F : Form) (s : Tables) (fits : first_owned + length s.tasks ≤ F.base) where
@@ -242,10 +242,10 @@ module _ (F : Form) (s : Tables) (fits : first_owned + length s.tasks ≤ F.base
       a.below l c y)
       e
 
-  took_did : {s' : Tables} {x : Step} → Did F s x s' → Took F.base s (actor x) s'
+  took_did : {s' : Tables} {x : Step} → Did F.base s x s' → Took F.base s (actor x) s'
   took_did d = go d (did_lengths d)
     where
-      go : {s' : Tables} {x : Step} → Did F s x s' → AsLong s' s → Took F.base s (actor x) s'
+      go : {s' : Tables} {x : Step} → Did F.base s x s' → AsLong s' s → Took F.base s (actor x) s'
       go nothing l = stayed refl
       go (made {t = t} {p = p} a b c) l =
           moved l

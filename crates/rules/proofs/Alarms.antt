@@ -131,7 +131,7 @@ module _ (F : Form) (apart : Apart F) (n : ℕ) (s : Tables) (g : Good F s) (roo
   pub get_blamed : (t p b : ℕ) → task_at s t ≡ ready_word → promise_at s p ≡ blamed_on F.base b
       → step F n s (step_get t p) ≡ outcome (Blamed b) s []
   get_blamed t p b r o =
-      get_accepted t p r (λ (z : promise_at s p ≡ unmade_word). omega (arith, apart.words))
+      get_accepted t p r (λ (z : promise_at s p ≡ unmade_word). omega (arith, apart))
       ∙ got_blamed F s (fits F apart s g.sizes) t p b o
 
   -- where the asker is one of the owners, it alarms

@@ -80,7 +80,7 @@ module _ (F : Form) (apart : Apart F) (n : ℕ) (s : Tables) where
     unfolding refused_with
     set_blamed g room b r e =
         own_gives g room r 17 (eqb-false 17 0 refl)
-        (blamed_is_17 F.base s.promises t p [] (omega (arith, apart.words)) (omega arith))
+        (blamed_is_17 F.base s.promises t p [] (omega (arith, apart)) (omega arith))
         ∙ ap (λ (x : ℕ). outcome (RefusedBlamed x) s []) (omega arith)
 
     pub blamed_set_lem : (b : ℕ) → (step F n s (step_set t p)).answer ≡ RefusedBlamed b
@@ -134,7 +134,7 @@ module _ (F : Form) (apart : Apart F) (n : ℕ) (s : Tables) where
     unfolding refused_at_with
     async_blamed i b k e =
         entry_gives 17 i (eqb-false 17 0 refl) k
-        (blamed_is_17 F.base s.promises t (get_or list i 0) _ (omega (arith, apart.words)) (omega arith))
+        (blamed_is_17 F.base s.promises t (get_or list i 0) _ (omega (arith, apart)) (omega arith))
         ∙ ap (λ (x : ℕ). outcome (RefusedBlamedAt i x) s []) (omega arith)
 
     pub async_nine : (i : ℕ) → Comes i → promise_at s (get_or list i 0) ≡ set_word
@@ -172,8 +172,8 @@ module _ (F : Form) (apart : Apart F) (s : Tables) where
     where
       go : PromiseWord (length s.tasks) F.base (promise_at s p)
           → (b < length s.tasks) × (task_at s b ≡ ended_word)
-      go (unmade z) = absurd (omega (arith, apart.words))
-      go (done z) = absurd (omega (arith, apart.words))
+      go (unmade z) = absurd (omega (arith, apart))
+      go (done z) = absurd (omega (arith, apart))
       go (owned u h z) = absurd (omega (arith, fits F apart s g.sizes))
       go (blamed u h z) = let x : b ≡ u = omega arith in (omega arith, g.sound.blamed_ended p b (omega arith) e)
 

@@ -43,7 +43,7 @@ module _ (F : Form) (s : Tables) (v p : ℕ) (w : task_at s v ≡ waits_on p) wh
       )
   by_set q h (no y) = inl (set_miss s q v (λ (u : task_at s v ≡ waits_on q). y (omega arith)) ∙ w)
 
-  by_end : (t : ℕ) → v ≢ t → Dec (promise_at s p ≡ owned_by t) → Blocked (with_ended (blamed_on F.base t) s t)
+  by_end : (t : ℕ) → v ≢ t → Dec (promise_at s p ≡ owned_by t) → Blocked (with_ended F.base s t)
   by_end t h (yes o) =
       inr (end_hit F.base s t v h (p, w, o), closed_blamed F.base _ t (blame_hit F.base s t p o))
   by_end t h (no n) = inl (end_miss F.base s t v h (λ k. other k.0 k.1 k.2) ∙ w)
@@ -51,7 +51,7 @@ module _ (F : Form) (s : Tables) (v p : ℕ) (w : task_at s v ≡ waits_on p) wh
       other : (q : ℕ) → task_at s v ≡ waits_on q → promise_at s q ≡ owned_by t → ⊥
       other q x o = let e : p ≡ q = omega arith in n (ap (promise_at s) e ∙ o)
 
-  by_step : {x : Step} {s' : Tables} → Did F s x s' → Blocked s'
+  by_step : {x : Step} {s' : Tables} → Did F.base s x s' → Blocked s'
   by_step nothing = inl w
   by_step (made a b c) = inl w
   by_step (was_set {p = q} a b c) = by_set q b (ℕ_discrete p q)

@@ -6,7 +6,7 @@ use Prim.Native.Nat.{ℕ, ◌+◌, ◌-◌, ◌≤◌, ◌<◌}
 use native.Mathlib.Omega.{arith}
 use lib.ListN.{length, take, drop, length-set, length-append, take-append-drop, length-drop, length-take}
 use lib.Seq.{take_at}
-use Rattle.words.specs.Words.{Form, ready_word, ended_word, owned_by, blamed_on}
+use Rattle.words.specs.Words.{Form, ready_word, ended_word, owned_by}
 use Rattle.words.specs.Lists.{In, top, pop}
 use Rattle.words.proofs.ListLaws.{length_replaced, within_table, in_right}
 use Rattle.rules.specs.Tables.{Tables, room_of, task_at}
@@ -65,7 +65,7 @@ module _ (F : Form) (apart : Apart F) (n : ℕ) (s : Tables) (g : Good F s) (roo
 
   module _ (v e : ℕ) where
     abbrev ended : Tables
-    ended = with_ended (blamed_on F.base e) s e
+    ended = with_ended F.base s e
 
     -- the last task of a chain is ready
     module _ (l : List ℕ) (c : Chain (waits s) v (l ++ e ∷ [])) where

@@ -31,7 +31,7 @@ use Rattle.rules.proofs.SoundTest.{sound_test_sound, sound_sound_test}
 module _ (F : Form) (apart : Apart F) where
   -- the owned words of tables whose sizes fit end before the blamed ones begin
   pub fits : (s : Tables) → sizes_fit F s ≡ true → first_owned + length s.tasks ≤ F.base
-  fits s b = omega (arith, apart.words, (sizes_fit_true F s b).tasks)
+  fits s b = omega (arith, apart, (sizes_fit_true F s b).tasks)
 
   -- the test of tables of any lengths finds exactly the good ones
   pub is_sound_good : (s : Tables) → is_sound F s ≡ true → Good F s
@@ -183,5 +183,5 @@ module _ (T P : ℕ) (some : 1 ≤ T) where
     sizes =
         let (lt, lp) = fresh_lengths T P in
         sizes_fit_of F (fresh T P) (record { some = rw lt some; tasks = rw lt most; promises = rw lp most' });
-    sound = fresh_sound F.base (omega (arith, apart.words));
+    sound = fresh_sound F.base (omega (arith, apart));
   }

@@ -137,7 +137,7 @@ end_names F n s sd t m k e =
 
     -- nobody ready was blamed before
     blamed : t < length s.tasks → task_at s t ≡ ready_word → (q : ℕ)
-        → promise_at (with_ended (blamed_on F.base t) s t) q ≡ blamed_on F.base t → Dec (promise_at s q ≡ owned_by t) → In q mine
+        → promise_at (with_ended F.base s t) q ≡ blamed_on F.base t → Dec (promise_at s q ≡ owned_by t) → In q mine
     blamed b r q w (yes y) = all_owned q y
     blamed b r q w (no y) = absurd (omega (arith, sd.blamed_ended q t b (sym (blame_miss F.base s t q y) ∙ w)))
 

@@ -49,7 +49,7 @@ module _ (F : Form) (apart : Apart F) where
       → promise_at s q ≢ unmade_word → promise_at s' q ≢ unmade_word
   promise_by s s' t (stayed e) q h = λ z. h (sym (ap (λ (x : Tables). promise_at x q) e) ∙ z)
   promise_by s s' t (moved l m) q h =
-      promise_made (length s.tasks) F.base (omega (arith, apart.words)) (view s) (view s') t q (m.moves.prom q) h
+      promise_made (length s.tasks) F.base (omega (arith, apart)) (view s) (view s') t q (m.moves.prom q) h
 
   -- after any steps, from any tables and each with a report of its own, a task that was used is used
   pub task_stays_used : (s : Tables) (xs : List LentStep) (t : ℕ) → task_at s t ≢ unused_word

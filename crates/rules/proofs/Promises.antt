@@ -1,18 +1,16 @@
 -- The page of promises: what the rules promise, each in one statement whose proof is a name. The definitions that it
 -- speaks of stand in specs/; no other proof file has to be read. F is any form whose owned and blamed words do not meet
--- (`small` and `large` are), n the report's length, s any tables. Assumes nothing.
+-- (`small` is one), n the report's length, s any tables. Assumes nothing.
 use mathlib.Core.Path.{◌≡◌, refl, sym, ◌∙◌}
 use mathlib.Core.Logic.{◌⊎◌, ◌≢◌}
 use mathlib.Core.List.{List, [], ◌∷◌, ◌++◌, map}
 use mathlib.Core.Bool.{true}
 use Prim.Native.Nat.{ℕ, ◌+◌, ◌≤◌, ◌<◌}
-use lib.Dec.{ltb}
+use lib.Dec.{ltb, lit≤}
 use lib.ListN.{length, get_or, replicate}
-use Rattle.words.specs.Words.{Form, form_of, unused_word, ready_word, ended_word, waits_on, unmade_word, set_word, first_owned}
+use Rattle.words.specs.Words.{Form, small, unused_word, ready_word, ended_word, waits_on, unmade_word, set_word, first_owned}
 use Rattle.words.specs.Words.{owned_by, blamed_on}
 use Rattle.words.specs.Lists.{In}
-use Rattle.words.specs.declared.FormName.{FormName}
-use Rattle.words.proofs.WordLaws.{form_fits}
 use Rattle.rules.specs.Tables.{Tables, tables, sizes_fit, room_of, task_at, promise_at, Live, live_tasks, closed}
 use Rattle.rules.specs.Tables.{blamed_task, fresh}
 use Rattle.rules.specs.Chains.{Chain, waits, view}
@@ -52,9 +50,8 @@ use Rattle.rules.proofs.Waiting as waiting
 pub the_proved_set : map taken proved_set ≡ map expected proved_set
 the_proved_set = cases.proved_set_lem
 
--- the theorems below are over any form whose words are apart: every form that a name stands for is one
-pub forms_are_apart : (form : FormName) → Apart (form_of form)
-forms_are_apart form = record { words = (form_fits form).words }
+pub small_apart : Apart small
+small_apart = lit≤ tt
 
 -- ---- the soundness test is what the paper says of sound tables, however far it follows a chain
 

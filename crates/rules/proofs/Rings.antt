@@ -92,13 +92,12 @@ module _ (W : ℕ → Type 0) where
         ((frame (length s.tasks) (length s.promises) B (view s) (view s') t mv).keep v p u
         (not_ready t u mv.acts m') k)
 
-    same_did : {F : Form} {s' : Tables} {x : Step} → Did F s x s' → Same s s'
-    same_did {F} {s'} {x} d = go (did_moves d)
+    same_did : {B : ℕ} {s' : Tables} {x : Step} → Did B s x s' → Same s s'
+    same_did {B} {s'} {x} d = go (did_moves d)
       where
-        go : (s' ≡ s) ⊎ Moves (length s.tasks) (length s.promises) F.base (view s) (view s') (actor x)
-            → Same s s'
+        go : (s' ≡ s) ⊎ Moves (length s.tasks) (length s.promises) B (view s) (view s') (actor x) → Same s s'
         go (inl e) v m = (ap (λ (y : Tables). task_at y v) e, λ p w. ap (λ (y : Tables). promise_at y p) e)
-        go (inr mv) v m = same_moves F.base (actor x) s' mv v m
+        go (inr mv) v m = same_moves B (actor x) s' mv v m
 
     -- no chain to a ready task starts in it
     no_chain : {v : ℕ} {l : List ℕ} → W v → Chain (waits s) v l → ⊥

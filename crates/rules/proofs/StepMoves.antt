@@ -79,11 +79,11 @@ module _ (s : Tables) (p v : ℕ) where
   set_miss n = replaced_miss (is (waits_on p)) ready_word s.tasks v (is_zero p) (is_miss (waits_on p) (task_at s v) n)
 
 module _ (B : ℕ) (s : Tables) (t : ℕ) where
-  pub blame_hit : (q : ℕ) → promise_at s q ≡ owned_by t → promise_at (with_ended (blamed_on B t) s t) q ≡ blamed_on B t
+  pub blame_hit : (q : ℕ) → promise_at s q ≡ owned_by t → promise_at (with_ended B s t) q ≡ blamed_on B t
   blame_hit q e =
       replaced_hit (is (owned_by t)) (blamed_on B t) s.promises q (is_zero t) (is_hit (owned_by t) (promise_at s q) e)
 
-  pub blame_miss : (q : ℕ) → promise_at s q ≢ owned_by t → promise_at (with_ended (blamed_on B t) s t) q ≡ promise_at s q
+  pub blame_miss : (q : ℕ) → promise_at s q ≢ owned_by t → promise_at (with_ended B s t) q ≡ promise_at s q
   blame_miss q n =
       replaced_miss (is (owned_by t)) (blamed_on B t) s.promises q (is_zero t) (is_miss (owned_by t) (promise_at s q) n)
 
@@ -103,23 +103,23 @@ module _ (B : ℕ) (s : Tables) (t : ℕ) where
   woken = replaced (awaits s.promises (owned_by t)) ready_word s.tasks
 
   module _ (v : ℕ) (other : v ≢ t) where
-    end_other : task_at (with_ended (blamed_on B t) s t) v ≡ get_or woken v 0
+    end_other : task_at (with_ended B s t) v ≡ get_or woken v 0
     end_other = get_or-set_other woken t v ended_word 0 other
 
-    pub end_hit : Waiter v → task_at (with_ended (blamed_on B t) s t) v ≡ ready_word
+    pub end_hit : Waiter v → task_at (with_ended B s t) v ≡ ready_word
     end_hit k =
         end_other
         ∙ replaced_hit (awaits s.promises (owned_by t)) ready_word s.tasks v (awaits_zero s.promises (owned_by t))
         (awaits_hit s.promises (owned_by t) (task_at s v) k.0 k.1 k.2)
 
-    pub end_miss : (Waiter v → ⊥) → task_at (with_ended (blamed_on B t) s t) v ≡ task_at s v
+    pub end_miss : (Waiter v → ⊥) → task_at (with_ended B s t) v ≡ task_at s v
     end_miss n =
         end_other
         ∙ replaced_miss (awaits s.promises (owned_by t)) ready_word s.tasks v (awaits_zero s.promises
         (owned_by t))
         (awaits_miss s.promises (owned_by t) (task_at s v) (λ p a b. n (p, a, b)))
 
-  pub end_actor : t < length s.tasks → task_at (with_ended (blamed_on B t) s t) t ≡ ended_word
+  pub end_actor : t < length s.tasks → task_at (with_ended B s t) t ≡ ended_word
   end_actor b =
       get_or-set_same woken t ended_word 0
       (omega (arith, length_replaced (awaits s.promises (owned_by t)) ready_word s.tasks))
@@ -195,7 +195,7 @@ module _ (T P B : ℕ) (s : Tables) (t : ℕ) (t<T : t < T) (rt : task_at s t �
 
 module _ (T P B : ℕ) (s : Tables) (t : ℕ) (t<T : t < T) (rt : task_at s t ≡ ready_word) (t<n : t < length s.tasks)
   where
-    pub end_moves : Moves T P B (view s) (view (with_ended (blamed_on B t) s t)) t
+    pub end_moves : Moves T P B (view s) (view (with_ended B s t)) t
     end_moves =
         record {
           below = t<T;
@@ -204,17 +204,17 @@ module _ (T P B : ℕ) (s : Tables) (t : ℕ) (t<T : t < T) (rt : task_at s t �
           prom = λ q. prom q (ℕ_discrete (promise_at s q) (owned_by t));
         }
       where
-        task : (v : ℕ) → Dec (v ≡ t) → Dec (Waiter B s t v) → TaskMove P B (view s) (view (with_ended (blamed_on B t) s t)) t v
-        task v (yes e) x = TaskMove.t_ended e (ap (task_at (with_ended (blamed_on B t) s t)) e ∙ end_actor B s t t<n)
+        task : (v : ℕ) → Dec (v ≡ t) → Dec (Waiter B s t v) → TaskMove P B (view s) (view (with_ended B s t)) t v
+        task v (yes e) x = TaskMove.t_ended e (ap (task_at (with_ended B s t)) e ∙ end_actor B s t t<n)
         task v (no n) (yes k) = TaskMove.t_woken k.0 k.1 k.2 (end_hit B s t v n k)
         task v (no n) (no m) = TaskMove.t_same (end_miss B s t v n m)
 
-        prom : (q : ℕ) → Dec (promise_at s q ≡ owned_by t) → PromiseMove T B (view s) (view (with_ended (blamed_on B t) s t)) t q
+        prom : (q : ℕ) → Dec (promise_at s q ≡ owned_by t) → PromiseMove T B (view s) (view (with_ended B s t)) t q
         prom q (yes e) = PromiseMove.p_blamed e (blame_hit B s t q e) (end_actor B s t t<n)
         prom q (no n) = PromiseMove.p_same (blame_miss B s t q n)
 
     -- whoever waited on t is ready
-    pub end_wakes : (v p : ℕ) → WaitsFor T (view s) v p t → task_at (with_ended (blamed_on B t) s t) v ≡ ready_word
+    pub end_wakes : (v p : ℕ) → WaitsFor T (view s) v p t → task_at (with_ended B s t) v ≡ ready_word
     end_wakes v p k = end_hit B s t v (λ (e : v ≡ t). omega (arith, k.waits, ap (task_at s) e)) (p, k.waits, k.owned)
 
 -- ---- in sound tables
@@ -310,24 +310,24 @@ module _ (T P B : ℕ) (fits : 16 + T ≤ B) (s : Tables) (sd : SoundView T P B 
     }
 
   module _ (t<n : t < length s.tasks) where
-    end_open₁ : (v q : ℕ) → task_at (with_ended (blamed_on B t) s t) v ≡ waits_on q → v ≢ t → Dec (Waiter B s t v)
-        → (u : ℕ) × (u < T) × (promise_at (with_ended (blamed_on B t) s t) q ≡ owned_by u)
+    end_open₁ : (v q : ℕ) → task_at (with_ended B s t) v ≡ waits_on q → v ≢ t → Dec (Waiter B s t v)
+        → (u : ℕ) × (u < T) × (promise_at (with_ended B s t) q ≡ owned_by u)
     end_open₁ v q w n (yes k) = absurd (omega (arith, end_hit B s t v n k))
     end_open₁ v q w n (no m) =
         let z : task_at s v ≡ waits_on q = sym (end_miss B s t v n m) ∙ w in
         let (u, h, o) = sd.awaited_owned v q z in
         (u, h, blame_miss B s t q (λ (e : promise_at s q ≡ owned_by t). m (q, z, e)) ∙ o)
 
-    end_open : (v q : ℕ) → task_at (with_ended (blamed_on B t) s t) v ≡ waits_on q → Dec (v ≡ t)
-        → (u : ℕ) × (u < T) × (promise_at (with_ended (blamed_on B t) s t) q ≡ owned_by u)
-    end_open v q w (yes e) = absurd (omega (arith, ap (task_at (with_ended (blamed_on B t) s t)) e, end_actor B s t t<n))
+    end_open : (v q : ℕ) → task_at (with_ended B s t) v ≡ waits_on q → Dec (v ≡ t)
+        → (u : ℕ) × (u < T) × (promise_at (with_ended B s t) q ≡ owned_by u)
+    end_open v q w (yes e) = absurd (omega (arith, ap (task_at (with_ended B s t)) e, end_actor B s t t<n))
     end_open v q w (no n) = end_open₁ v q w n (waiter? B s t v)
 
-    end_left : (q : ℕ) → promise_at (with_ended (blamed_on B t) s t) q ≡ owned_by t → Dec (promise_at s q ≡ owned_by t) → ⊥
+    end_left : (q : ℕ) → promise_at (with_ended B s t) q ≡ owned_by t → Dec (promise_at s q ≡ owned_by t) → ⊥
     end_left q o (yes e) = omega (arith, blame_hit B s t q e)
     end_left q o (no n) = n (sym (blame_miss B s t q n) ∙ o)
 
-    pub end_sound : SoundMoves T P B (view s) (view (with_ended (blamed_on B t) s t)) t
+    pub end_sound : SoundMoves T P B (view s) (view (with_ended B s t)) t
     end_sound = record {
       moves = end_moves T P B s t t<T rt t<n;
       open_still = λ v q w. end_open v q w (ℕ_discrete v t);

@@ -30,8 +30,8 @@ use Rattle.rules.specs.Steps.{step_refused, step, untested, LentStep, ran, run}
 use Rattle.rules.specs.declared.Answer.{Answer}
 use Rattle.rules.specs.declared.Answer.TheVariants.{Ended, Refused, RefusedAt, RefusedBlamed, RefusedBlamedAt}
 
-pub record Apart (F : Form) : Type 0 where
-  pub words : first_owned + F.most_tasks ≤ F.base
+abbrev pub Apart : Form → Type 0
+Apart F = first_owned + F.most_tasks ≤ F.base
 
 pub record Good (F : Form) (s : Tables) : Type 0 where
   pub sizes : sizes_fit F s ≡ true

@@ -79,12 +79,12 @@ unfoldable pub awaits : List ℕ → ℕ → ℕ → Bool
 awaits ps v w = waiting w && eqb (get_or ps (w - first_wait) 0) v
 
 -- "t becomes ended. Each promise it owns becomes blamed on t, awaited or not (an omitted set). Each task that waits on
--- one of these becomes ready." w is the word that closes what t owns.
+-- one of these becomes ready."
 abbrev pub with_ended : ℕ → Tables → ℕ → Tables
-with_ended w s t =
+with_ended B s t =
     with_words s
     (set (replaced (awaits s.promises (owned_by t)) ready_word s.tasks) t ended_word)
-    (replaced (is (owned_by t)) w s.promises)
+    (replaced (is (owned_by t)) (blamed_on B t) s.promises)
 
 -- ---- whom a set and an end report
 
@@ -192,7 +192,7 @@ effect F s (step_get t p) = got F.base s t p (promise_at s p)
 effect F s (step_async t c list) =
     started F.base s t c list (first_bad (entry_refusal F.base s.promises t list) (length list) 0)
 effect F s (step_end t) =
-    outcome (Ended (length (omitted_by s t)) (length (waiters_for s t))) (with_ended (blamed_on F.base t) s t)
+    outcome (Ended (length (omitted_by s t)) (length (waiters_for s t))) (with_ended F.base s t)
     (omitted_by s t ++ waiters_for s t)
 
 -- the rules without refusals 1 and 2

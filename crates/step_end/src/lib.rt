@@ -2,7 +2,7 @@
 // these becomes ready.
 ghost use Rattle.std.specs.Prelude.{◌≡◌, true, ◌+◌, ◌≤◌, length};
 ghost use Rattle.std.proofs.lemmas.List.Edits.{sets};
-ghost use Rattle.words.specs.Words.{form_of, ready_word};
+ghost use Rattle.words.specs.Words.{small, ready_word};
 ghost use Rattle.words.specs.Lists.{places, changed, replaced};
 ghost use Rattle.rules.specs.Tables.{tables as tables_of, in_bounds};
 ghost use Rattle.rules.specs.Steps.{step_end, awaits};
@@ -11,7 +11,7 @@ ghost use Rattle.rules.specs.StepContracts.{TakesRaw};
 use rules::Answer;
 use step_guards::actor_refusal;
 use table_access::{at, collect_word, put, replace_word};
-use words::{FormName, PromiseWord, TaskWord, base_of};
+use words::{PromiseWord, TaskWord};
 
 // Whether a task with the word `w` waits on a promise whose word is `v`.
 fn awaits_word(promises: &[u16], v: u16, w: u16) -> bool
@@ -67,15 +67,9 @@ fn wake_waiting(tasks: &mut [u16], promises: &[u16], v: u16)
 
 // The step without refusals 1 and 2, for a caller that has tested the bounds and the tables. Who waits is found
 // before the promises are blamed.
-pub fn raw_end(
-    form: FormName,
-    tasks: &mut [u16],
-    promises: &mut [u16],
-    report: &mut [u16],
-    t: u16,
-) -> Answer
-    requires { in_bounds (form_of form) (length report.old) (tables_of tasks.old promises.old) ≡ true }
-    ensures { TakesRaw (form_of form) (step_end t) (tables_of tasks.old promises.old)
+pub fn raw_end(tasks: &mut [u16], promises: &mut [u16], report: &mut [u16], t: u16) -> Answer
+    requires { in_bounds small (length report.old) (tables_of tasks.old promises.old) ≡ true }
+    ensures { TakesRaw small (step_end t) (tables_of tasks.old promises.old)
         report.old result (tables_of tasks.new promises.new) report.new }
 {
     let r = actor_refusal(tasks, t);
@@ -88,7 +82,7 @@ pub fn raw_end(
     let n = e - m;
     wake_waiting(tasks, promises, v);
     put(tasks, t as usize, TaskWord::ENDED);
-    let b = PromiseWord::blamed_on(base_of(form), t);
+    let b = PromiseWord::blamed_on(t);
     replace_word(promises, v, b);
     let promise_count = m as u16;
     let task_count = n as u16;

@@ -1,21 +1,21 @@
 // The step get: the value or the blame of a closed promise; otherwise owners are followed, and the task waits, or the
 // ring that it would close is reported.
-ghost use Rattle.std.specs.Prelude.{◌≡◌, true, ◌++◌, ◌*◌, ◌≤◌, ◌<◌, length, get_or, set};
-ghost use Rattle.words.specs.Words.{Form, large, form_of, waits_on};
+ghost use Rattle.std.specs.Prelude.{◌≡◌, true, ◌*◌, ◌≤◌, ◌<◌, length, set};
+ghost use Rattle.words.specs.Words.{small, Form, waits_on};
 ghost use Rattle.rules.specs.Tables.{tables as tables_of, in_bounds};
-ghost use Rattle.rules.specs.Refusals.{first, actor_rows, get_rows};
-ghost use Rattle.rules.specs.Steps.{step_get, asked_of, got};
+ghost use Rattle.rules.specs.Refusals.{first};
+ghost use Rattle.rules.specs.Steps.{step_get, asked_of, effect, rows};
 ghost use Rattle.rules.specs.StepContracts.{Gives, TakesRaw};
 
 use rules::Answer;
 use step_guards::{actor_refusal, earlier, get_refusal as promise_refusal};
 use table_access::{at, number_at, put};
 use table_walks::{Trail, follow, write_pairs};
-use words::{FormName, PromiseWord, TaskWord, base_of};
+use words::{PromiseWord, TaskWord};
 
 // Refusals 3, 4, 5, 6 and 8.
 fn refusal(tasks: &[u16], promises: &[u16], t: u16, p: u16) -> u16
-    ensures { result ≡ first (actor_rows tasks.now t ++ get_rows promises.now p) }
+    ensures { result ≡ first (rows small (tables_of tasks.now promises.now) (step_get t p)) }
 {
     earlier(actor_refusal(tasks, t), promise_refusal(promises, p))
 }
@@ -30,8 +30,8 @@ fn wait_on(tasks: &mut [u16], t: u16, p: u16)
 
 // Follows owners from `p`, which is not closed.
 fn get_owned(tasks: &mut [u16], promises: &[u16], report: &mut [u16], t: u16, p: u16) -> Answer
-    requires { (length tasks.old ≤ large.most_tasks) × (2 * length tasks.old ≤ length report.old)
-        × (p < large.most_promises) }
+    requires { (length tasks.old ≤ small.most_tasks) × (2 * length tasks.old ≤ length report.old)
+        × (p < small.most_promises) }
     ensures { Gives (asked_of (tables_of tasks.old promises.now) t p)
         report.old result (tables_of tasks.new promises.now) report.new }
 {
@@ -57,46 +57,31 @@ fn get_owned(tasks: &mut [u16], promises: &[u16], report: &mut [u16], t: u16, p:
 }
 
 // A promise that was made: a closed one answers at once.
-fn get_made(
-    tasks: &mut [u16],
-    promises: &[u16],
-    report: &mut [u16],
-    base: u16,
-    t: u16,
-    p: u16,
-) -> Answer
-    requires { (length tasks.old ≤ large.most_tasks) × (2 * length tasks.old ≤ length report.old)
-        × (p < large.most_promises) }
-    ensures { Gives (got base (tables_of tasks.old promises.now) t p
-        (get_or promises.now p 0)) report.old result (tables_of tasks.new promises.now) report.new }
+fn get_made(tasks: &mut [u16], promises: &[u16], report: &mut [u16], t: u16, p: u16) -> Answer
+    requires { (length tasks.old ≤ small.most_tasks) × (2 * length tasks.old ≤ length report.old)
+        × (p < small.most_promises) }
+    ensures { Gives (effect small (tables_of tasks.old promises.now) (step_get t p))
+        report.old result (tables_of tasks.new promises.now) report.new }
 {
     let w = at(promises, p as usize);
     if w == PromiseWord::SET {
         return Answer::Value;
     }
-    if base <= w {
-        return Answer::Blamed(w - base);
+    if PromiseWord::FIRST_BLAMED <= w {
+        return Answer::Blamed(w - PromiseWord::FIRST_BLAMED);
     }
     get_owned(tasks, promises, report, t, p)
 }
 
 // The step without refusals 1 and 2, for a caller that has tested the bounds and the tables.
-pub fn raw_get(
-    form: FormName,
-    tasks: &mut [u16],
-    promises: &[u16],
-    report: &mut [u16],
-    t: u16,
-    p: u16,
-) -> Answer
-    requires { in_bounds (form_of form) (length report.old) (tables_of tasks.old promises.now) ≡ true }
-    ensures { TakesRaw (form_of form) (step_get t p)
-        (tables_of tasks.old promises.now) report.old
-        result (tables_of tasks.new promises.now) report.new }
+pub fn raw_get(tasks: &mut [u16], promises: &[u16], report: &mut [u16], t: u16, p: u16) -> Answer
+    requires { in_bounds small (length report.old) (tables_of tasks.old promises.now) ≡ true }
+    ensures { TakesRaw small (step_get t p) (tables_of tasks.old promises.now)
+        report.old result (tables_of tasks.new promises.now) report.new }
 {
     let n = refusal(tasks, promises, t, p);
     if n != 0 {
         return Answer::Refused(n);
     }
-    get_made(tasks, promises, report, base_of(form), t, p)
+    get_made(tasks, promises, report, t, p)
 }

@@ -1,6 +1,7 @@
 // The refusals that look at one number of a step: each function returns the first that applies, and 0 where none
 // does. They ask nothing of their caller.
 ghost use Rattle.std.specs.Prelude.{◌≡◌};
+ghost use Rattle.words.specs.Words.{small};
 ghost use Rattle.rules.specs.Refusals.{earlier as earlierOf, first, actor_rows, child_rows, new_rows, get_rows, own_rows};
 
 use words::{PromiseWord, TaskWord};
@@ -75,9 +76,9 @@ pub fn get_refusal(promises: &[u16], p: u16) -> u16
     0
 }
 
-// Refusals 6, 8, 9, 17 and 10: a promise that only its owner may set or hand on. `base` is where the blamed words begin.
-pub fn own_refusal(promises: &[u16], base: u16, t: u16, p: u16) -> u16
-    ensures { result ≡ first (own_rows base promises.now t p) }
+// Refusals 6, 8, 9, 17 and 10: a promise that only its owner may set or hand on.
+pub fn own_refusal(promises: &[u16], t: u16, p: u16) -> u16
+    ensures { result ≡ first (own_rows small.base promises.now t p) }
 {
     let i = p as usize;
     if promises.len() <= i {
@@ -90,7 +91,7 @@ pub fn own_refusal(promises: &[u16], base: u16, t: u16, p: u16) -> u16
     if w == PromiseWord::SET {
         return 9;
     }
-    if base <= w {
+    if PromiseWord::FIRST_BLAMED <= w {
         return 17;
     }
     if w < PromiseWord::FIRST_OWNED {

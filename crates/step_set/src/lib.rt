@@ -1,32 +1,32 @@
 // The step set: its owner sets a promise, and every task that waits on it becomes ready.
-ghost use Rattle.std.specs.Prelude.{◌≡◌, true, ◌++◌, ◌-◌, length, get_or};
-ghost use Rattle.words.specs.Words.{form_of};
+ghost use Rattle.std.specs.Prelude.{◌≡◌, true, ◌-◌, length, get_or};
+ghost use Rattle.words.specs.Words.{small};
 ghost use Rattle.rules.specs.Tables.{tables as tables_of, in_bounds};
 ghost use Rattle.rules.specs.Answers.{refused_with};
-ghost use Rattle.rules.specs.Refusals.{first, actor_rows, own_rows};
-ghost use Rattle.rules.specs.Steps.{step_set};
+ghost use Rattle.rules.specs.Refusals.{first};
+ghost use Rattle.rules.specs.Steps.{step_set, rows};
 ghost use Rattle.rules.specs.StepContracts.{TakesRaw};
 
 use rules::Answer;
 use step_guards::{actor_refusal, earlier, own_refusal};
 use table_access::{collect_word, number_at, put, replace_word};
-use words::{FormName, PromiseWord, TaskWord, base_of};
+use words::{PromiseWord, TaskWord};
 
 // Refusals 3, 4, 5, 6, 8, 9, 17 and 10.
-fn refusal(tasks: &[u16], promises: &[u16], base: u16, t: u16, p: u16) -> u16
-    ensures { result ≡ first (actor_rows tasks.now t ++ own_rows base promises.now t p) }
+fn refusal(tasks: &[u16], promises: &[u16], t: u16, p: u16) -> u16
+    ensures { result ≡ first (rows small (tables_of tasks.now promises.now) (step_set t p)) }
 {
     let a = actor_refusal(tasks, t);
-    let b = own_refusal(promises, base, t, p);
+    let b = own_refusal(promises, t, p);
     earlier(a, b)
 }
 
 // The answer that refuses by `r`: 17 with the task that `p` is blamed on, any other by its number alone.
-fn refused(promises: &[u16], base: u16, p: u16, r: u16) -> Answer
-    ensures { result ≡ refused_with (get_or promises.now p 0 - base) r }
+fn refused(promises: &[u16], p: u16, r: u16) -> Answer
+    ensures { result ≡ refused_with (get_or promises.now p 0 - small.base) r }
 {
     if r == 17 {
-        let b = number_at(promises, base, p);
+        let b = number_at(promises, PromiseWord::FIRST_BLAMED, p);
         return Answer::RefusedBlamed(b);
     }
     Answer::Refused(r)
@@ -34,22 +34,19 @@ fn refused(promises: &[u16], base: u16, p: u16, r: u16) -> Answer
 
 // The step without refusals 1 and 2, for a caller that has tested the bounds and the tables.
 pub fn raw_set(
-    form: FormName,
     tasks: &mut [u16],
     promises: &mut [u16],
     report: &mut [u16],
     t: u16,
     p: u16,
 ) -> Answer
-    requires { in_bounds (form_of form) (length report.old) (tables_of tasks.old promises.old) ≡ true }
-    ensures { TakesRaw (form_of form) (step_set t p)
-        (tables_of tasks.old promises.old) report.old
-        result (tables_of tasks.new promises.new) report.new }
+    requires { in_bounds small (length report.old) (tables_of tasks.old promises.old) ≡ true }
+    ensures { TakesRaw small (step_set t p) (tables_of tasks.old promises.old)
+        report.old result (tables_of tasks.new promises.new) report.new }
 {
-    let base = base_of(form);
-    let r = refusal(tasks, promises, base, t, p);
+    let r = refusal(tasks, promises, t, p);
     if r != 0 {
-        return refused(promises, base, p, r);
+        return refused(promises, p, r);
     }
     let w = TaskWord::waits_on(p);
     let n = collect_word(tasks, w, report, 0);

@@ -1,9 +1,9 @@
 // Whether every chain comes to a ready task. No link is walked twice: a walk marks the tasks on its way, and ends where
 // an earlier walk has been.
-ghost use Rattle.std.specs.Prelude.{◌≡◌, true, ◌≤◌, ◌<◌, length};
-ghost use Rattle.words.specs.Words.{Form, small, large};
+ghost use Rattle.std.specs.Prelude.{◌≡◌, true, ◌<◌, length};
+ghost use Rattle.words.specs.Words.{small};
 ghost use Rattle.words.specs.Lists.{all_below};
-ghost use Rattle.rules.specs.Tables.{tables, live as liveWord};
+ghost use Rattle.rules.specs.Tables.{tables, sizes_fit, live as liveWord};
 ghost use Rattle.rules.specs.Sound.{comes_in_time};
 ghost use Rattle.table_chains.specs.Marks.{Marked, MarksFor, chain_passes, LeadsWithin};
 
@@ -73,23 +73,13 @@ fn chains_marked(tasks: &[u16], promises: &[u16], marks: &mut [u16]) -> bool
     true
 }
 
-// The same with marks of its own, as many as the small form has tasks.
-fn marked_few(tasks: &[u16], promises: &[u16]) -> bool
-    requires { length tasks.now ≤ small.most_tasks }
+// The same with marks of its own.
+fn marked_pass(tasks: &[u16], promises: &[u16]) -> bool
+    requires { sizes_fit small (tables tasks.now promises.now) ≡ true }
     ensures { result ≡ all_below (length tasks.now)
         (chain_passes (tables tasks.now promises.now)) }
 {
-    let mut marks = [0; Limit::SMALL_TASKS];
-    chains_marked(tasks, promises, &mut marks)
-}
-
-// The same with as many as any form has.
-fn marked_many(tasks: &[u16], promises: &[u16]) -> bool
-    requires { length tasks.now ≤ large.most_tasks }
-    ensures { result ≡ all_below (length tasks.now)
-        (chain_passes (tables tasks.now promises.now)) }
-{
-    let mut marks = [0; Limit::LARGE_TASKS];
+    let mut marks = [0; Limit::TASKS];
     chains_marked(tasks, promises, &mut marks)
 }
 
@@ -146,7 +136,7 @@ fn all_down(tasks: &[u16], promises: &[u16]) -> bool
 
 // Whether the chain of every waiting task comes to a ready task. Where all links lead one way no marks are needed.
 pub fn chains_pass(tasks: &[u16], promises: &[u16]) -> bool
-    requires { length tasks.now ≤ large.most_tasks }
+    requires { sizes_fit small (tables tasks.now promises.now) ≡ true }
     ensures { result ≡ all_below (length tasks.now)
         (chain_passes (tables tasks.now promises.now)) }
 {
@@ -156,8 +146,5 @@ pub fn chains_pass(tasks: &[u16], promises: &[u16]) -> bool
     if all_down(tasks, promises) {
         return true;
     }
-    if tasks.len() <= Limit::SMALL_TASKS {
-        return marked_few(tasks, promises);
-    }
-    marked_many(tasks, promises)
+    marked_pass(tasks, promises)
 }

@@ -1,17 +1,17 @@
 // Fresh tables: task 0 is ready and every other word is 0.
 ghost use Rattle.std.specs.Prelude.{◌≡◌, length};
-ghost use Rattle.words.specs.Words.{form_of};
+ghost use Rattle.words.specs.Words.{small};
 ghost use Rattle.rules.specs.Tables.{tables as tables_of};
 ghost use Rattle.rules.specs.Refusals.{fresh_refusal};
 ghost use Rattle.rules.specs.StepContracts.{Freshens};
 
-use words::{FormName, PromiseWord, TaskWord};
+use words::{PromiseWord, TaskWord};
 
 // Refusal 1 by the sizes alone, or 0.
-pub fn fresh_refusal(form: FormName, tasks: usize, promises: usize) -> u16
-    ensures { result ≡ fresh_refusal (form_of form) tasks promises }
+pub fn fresh_refusal(tasks: usize, promises: usize) -> u16
+    ensures { result ≡ fresh_refusal small tasks promises }
 {
-    if words::sizes_in_bounds(form, tasks, promises) {
+    if words::sizes_in_bounds(tasks, promises) {
         return 0;
     }
     1
@@ -19,11 +19,11 @@ pub fn fresh_refusal(form: FormName, tasks: usize, promises: usize) -> u16
 
 // Makes the lent tables fresh, whatever they held; refused by 1 if one is too short or too long, and then nothing is
 // written.
-pub fn fresh(form: FormName, tasks: &mut [u16], promises: &mut [u16]) -> u16
-    ensures { Freshens (form_of form) (tables_of tasks.old promises.old)
+pub fn fresh(tasks: &mut [u16], promises: &mut [u16]) -> u16
+    ensures { Freshens small (tables_of tasks.old promises.old)
         result (tables_of tasks.new promises.new) }
 {
-    let n = fresh_refusal(form, tasks.len(), promises.len());
+    let n = fresh_refusal(tasks.len(), promises.len());
     if n != 0 {
         return n;
     }

@@ -11,8 +11,7 @@ use native.Mathlib.Numerals.{add-one}
 use lib.Dec.{eqb, leb, ltb}
 use borrow.Author.Tests.{lt-ltb, le-ltb, le-leb, lt-leb, ne_eqb, eq-eqb, eqb-true, leb-true, ltb-true}
 use lib.ListN.{length, get_or, set, replicate, length-set, length-replicate}
-use Rattle.words.specs.Words.{Form, small, unused_word, ready_word, ended_word, first_wait, unmade_word, set_word}
-use Rattle.words.specs.Words.{first_owned}
+use Rattle.words.specs.Words.{unused_word, ready_word, ended_word, first_wait, unmade_word, set_word, first_owned}
 use Rattle.words.specs.Lists.{all_below, is}
 use Rattle.words.proofs.BoolLaws.{and_split, and_false, and_true, or_split, or_left, or_right, true_is_not_false}
 use Rattle.words.proofs.ListLaws.{set_each, get_d_replicate_same, all_below_same, all_below_at, all_below_make}
@@ -126,35 +125,6 @@ most_end {ws} {most} {i} r h n z =
     let e : length ws ≡ i = omega (arith, r.within) in
     ap (λ (k : ℕ). all_below k (λ j. below n (get_or ws j 0))) e ∙ r.largest n z
 
-largest_at : (ps : List ℕ) (most : ℕ) → LargestOf ps most → (q : ℕ) → q < length ps → get_or ps q 0 < suc most
-unfolding below
-largest_at ps most l q z =
-    ltb-true _ _
-    (all_below_at (length ps) (λ k. ltb (get_or ps k 0) (suc most))
-    (l (suc most) (omega arith) ∙ lt-ltb most (suc most) (omega arith)) q z)
-
--- ---- where no word is high enough to blame, it does not matter where the blamed words begin
-
-unblamed_alike : (B B' : ℕ) (ts ps : List ℕ) (most : ℕ) → LargestOf ps most → most < B → most < B'
-    → all_below (length ps) (promise_passes B (tables ts ps)) ≡ all_below (length ps) (promise_passes B' (tables ts ps))
-unfolding promise_passes
-unblamed_alike B B' ts ps most l h h' =
-    all_below_same (length ps) (promise_passes B (tables ts ps)) (promise_passes B' (tables ts ps))
-    (λ q z. let low = largest_at ps most l q z in
-    rw (lt-leb B (get_or ps q 0) (omega arith), lt-leb B' (get_or ps q 0) (omega arith)))
-
-pub small_does_as_well : (B : ℕ) (ts ps : List ℕ) (most : ℕ) → LargestOf ps most → small.base ≤ B
-    → (eqb B small.base || ltb most small.base) ≡ true
-    → all_below (length ps) (promise_passes small.base (tables ts ps))
-    ≡ all_below (length ps) (promise_passes B (tables ts ps))
-small_does_as_well B ts ps most l h e = go (or_split _ _ e)
-  where
-    go : (eqb B small.base ≡ true) ⊎ (ltb most small.base ≡ true)
-        → all_below (length ps) (promise_passes small.base (tables ts ps))
-        ≡ all_below (length ps) (promise_passes B (tables ts ps))
-    go (inl a) = ap (λ (b : ℕ). all_below (length ps) (promise_passes b (tables ts ps))) (sym (eqb-true _ _ a))
-    go (inr a) = let low = ltb-true _ _ a in unblamed_alike small.base B ts ps most l low (omega (arith, low, h))
-
 -- ---- only owners
 
 first_two : (w : ℕ) → w ≤ set_word → (eqb w unmade_word || eqb w set_word) ≡ true
@@ -184,13 +154,19 @@ only_owners ts ps most l live-so few no_gap B =
     apart : (q : ℕ) → q < length ps → (leb (get_or ps q 0) set_word || leb first_owned (get_or ps q 0)) ≡ true
     apart q z = all_below_at (length ps) (λ k. leb (get_or ps k 0) set_word || leb first_owned (get_or ps k 0)) no_gap q z
 
+    small : (q : ℕ) → q < length ps → get_or ps q 0 < suc most
+    small q z =
+        ltb-true _ _
+        (all_below_at (length ps) (λ k. ltb (get_or ps k 0) (suc most))
+        (l (suc most) (omega arith) ∙ lt-ltb most (suc most) (omega arith)) q z)
+
     passes : (q : ℕ) → q < length ps
         → (leb (get_or ps q 0) set_word ≡ true) ⊎ (leb first_owned (get_or ps q 0) ≡ true)
         → promise_word_passes B (tables ts ps) (get_or ps q 0) ≡ true
     passes q z (inl e) = rw (first_two (get_or ps q 0) (leb-true _ _ e))
     passes q z (inr e) =
         let h = leb-true first_owned (get_or ps q 0) e in
-        let below-most = largest_at ps most l q z in
+        let below-most = small q z in
         let named : get_or ps q 0 - first_owned < owners_up_to most = omega arith in
         owner_passes B ts ps (get_or ps q 0) h (omega (arith, named, few))
         (all_below_at (owners_up_to most) (λ t. live (get_or ts t 0)) live-so (get_or ps q 0 - first_owned) named)

@@ -1,7 +1,7 @@
 // Each word of the tables by itself: whether it is one that may stand there. No loop here leaves before its end, so
 // that it goes through several words at once.
-ghost use Rattle.std.specs.Prelude.{◌≡◌, true, cond, ◌&&◌, ◌||◌, ◌+◌, ◌≤◌, ◌<◌, eqb, leb, ltb, length};
-ghost use Rattle.words.specs.Words.{Form, small, large, form_of, ended_word, first_owned};
+ghost use Rattle.std.specs.Prelude.{◌≡◌, true, cond, ◌+◌, ◌≤◌, ◌<◌, ltb, length};
+ghost use Rattle.words.specs.Words.{small, ended_word};
 ghost use Rattle.words.specs.Lists.{all_below, is};
 ghost use Rattle.rules.specs.Tables.{tables, sizes_fit, live};
 ghost use Rattle.rules.specs.Sound.{promise_passes};
@@ -9,7 +9,7 @@ ghost use Rattle.table_words.specs.Allowed.{every_word, task_word_passes, idle, 
 ghost use Rattle.table_words.specs.Allowed.{LargestOf, live_at, not_between, owners_up_to, OnlyOwners};
 ghost use Rattle.table_words.specs.Allowed.{Noted, MayHold, Fills};
 
-use words::{FormName, Limit, PromiseWord, TaskWord, base_of};
+use words::{Limit, PromiseWord, TaskWord};
 
 // Whether each task's word is one of these; `promises` is how many promises there are.
 pub fn task_words_pass(tasks: &[u16], promises: usize) -> bool
@@ -169,60 +169,29 @@ fn fill_may(tasks: &[u16], may: &mut [bool], base: u16)
 }
 
 // Whether each promise's word is one of these, its owner is live, and who is blamed is ended: each is looked up in
-// `may`, in which no word may stand yet. `most` is the largest of them.
-fn promises_may(tasks: &[u16], promises: &[u16], most: u16, may: &mut [bool], base: u16) -> bool
-    requires { LargestOf promises.now most × MayHold base (length tasks.now) may.old }
+// `may`, in which no word may stand yet.
+fn promises_may(tasks: &[u16], promises: &[u16], may: &mut [bool], base: u16) -> bool
+    requires { MayHold base (length tasks.now) may.old }
     ensures { result ≡ all_below (length promises.now)
         (promise_passes base (tables tasks.now promises.now)) }
 {
+    let most = largest(promises);
     if may.len() <= most as usize {
         return false;
+    }
+    if all_owned(tasks, promises, most) {
+        return true;
     }
     fill_may(tasks, may, base);
     look_up(promises, may)
 }
 
-// The same with a look-up table of its own, for tables as the small form has them.
-fn small_look_up(tasks: &[u16], promises: &[u16], most: u16) -> bool
-    requires { (length tasks.now ≤ small.most_tasks) × LargestOf promises.now most }
+// The same with a look-up table of its own.
+pub fn promises_pass(tasks: &[u16], promises: &[u16]) -> bool
+    requires { sizes_fit small (tables tasks.now promises.now) ≡ true }
     ensures { result ≡ all_below (length promises.now)
         (promise_passes small.base (tables tasks.now promises.now)) }
 {
-    let mut may = [false; Limit::SMALL_WORDS];
-    promises_may(tasks, promises, most, &mut may, Limit::SMALL_BASE)
-}
-
-// The same with one that is large enough for any form.
-fn large_look_up(tasks: &[u16], promises: &[u16], most: u16, base: u16) -> bool
-    requires { (first_owned + length tasks.now ≤ base) × (length tasks.now ≤ large.most_tasks)
-        × (base ≤ large.base) × LargestOf promises.now most }
-    ensures { result ≡ all_below (length promises.now)
-        (promise_passes base (tables tasks.now promises.now)) }
-{
-    let mut may = [false; Limit::LARGE_WORDS];
-    promises_may(tasks, promises, most, &mut may, base)
-}
-
-// Whether the small form's look-up table does: the tables have that form, or no word is high enough to blame in any.
-fn small_does(tasks: usize, most: u16, base: u16) -> bool
-    ensures { result ≡ (leb tasks small.most_tasks && (eqb base small.base || ltb most small.base)) }
-{
-    (tasks <= Limit::SMALL_TASKS) & ((base == Limit::SMALL_BASE) | (most < Limit::SMALL_BASE))
-}
-
-// Whether each promise's word is one of these, its owner is live, and who is blamed is ended.
-pub fn promises_pass(form: FormName, tasks: &[u16], promises: &[u16]) -> bool
-    requires { sizes_fit (form_of form) (tables tasks.now promises.now) ≡ true }
-    ensures { result ≡ all_below (length promises.now)
-        (promise_passes (form_of form).base (tables tasks.now promises.now)) }
-{
-    let most = largest(promises);
-    if all_owned(tasks, promises, most) {
-        return true;
-    }
-    let base = base_of(form);
-    if small_does(tasks.len(), most, base) {
-        return small_look_up(tasks, promises, most);
-    }
-    large_look_up(tasks, promises, most, base)
+    let mut may = [false; Limit::PROMISE_WORDS];
+    promises_may(tasks, promises, &mut may, PromiseWord::FIRST_BLAMED)
 }

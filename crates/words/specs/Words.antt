@@ -3,18 +3,15 @@
 --   unused_word, ready_word, ended_word, waits_on p    the words of the task table
 --   unmade_word, set_word, owned_by t, blamed_on B t   the words of the promise table; B is where the blamed words begin
 --   first_wait, first_owned                          the word that waits on promise 0, the word owned by task 0
---   Form, small, large                             where the blamed words begin, and the most tasks and promises
---   form_of n                                       the form that a name stands for
+--   Form, small                                    where the blamed words begin, and the limits of a session
 --   sizes_in_bounds F T P                            T and P are within their bounds
 --   room_for T P                                    the words of a report that has room for every answer
 --   most_records                                    the most steps of a batch
 --   last_line                                       the largest number of a line
---   of_lines, line_report                            the form that lines use, and the report that is lent with a line
---   longest_line, longest_answer, most_entries        the limits of a line, of its answer and of its list
+--   of_lines                                        the form that lines use
+--   longest_line, longest_answer, line_report, most_entries   its limits
 -- Assumes nothing.
 use Rattle.std.specs.Prelude.{ℕ, ◌+◌, ◌*◌, ◌/◌, Bool, ◌&&◌, leb}
-use Rattle.words.specs.declared.FormName.{FormName}
-use Rattle.words.specs.declared.FormName.TheVariants.{Small, Large}
 
 -- ---- "task word"
 
@@ -54,32 +51,25 @@ first_owned = 16
 abbrev pub owned_by : ℕ → ℕ
 owned_by t = first_owned + t
 
--- "80+t blamed on t", "528+t": the base is a parameter of every rule
+-- "80+t blamed on t": the base, 80 here, is a parameter of every rule
 abbrev pub blamed_on : ℕ → ℕ → ℕ
 blamed_on B t = B + t
 
 -- ---- the limits: all of them stand here, and as constants in src/
 
--- where the blamed words begin, the most tasks and the most promises of a session
+-- where the blamed words begin, the most tasks and the most promises of a session, and the longest line and answer line
 pub record Form : Type 0 where
   pub base : ℕ
   pub most_tasks : ℕ
   pub most_promises : ℕ
+  pub longest_line : ℕ
+  pub longest_answer : ℕ
 
--- "T words (1 to 64)", "P words (0 to 256)", "80+t blamed on t"
+-- "T words (1 to 64)", "P words (0 to 256)", "longer than 2,048 bytes", "an answer line of at least 2,048 bytes"
 abbrev pub small : Form
-small = record { base = 80; most_tasks = 64; most_promises = 256 }
+small = record { base = 80; most_tasks = 64; most_promises = 256; longest_line = 2048; longest_answer = 2048 }
 
--- 02, 7/13: "512 tasks and 2,048 promises", "blamed on t becomes 528+t"
-abbrev pub large : Form
-large = record { base = 528; most_tasks = 512; most_promises = 2048 }
-
--- 02, 7/13: "The caller says which form it lends."
-abbrev pub form_of : FormName → Form
-form_of Small = small
-form_of Large = large
-
--- "a task table of T words (1 to 64), a promise table of P words (0 to 256)", "1 keeps its place with the new bounds"
+-- "a task table of T words (1 to 64), a promise table of P words (0 to 256)"
 unfoldable pub sizes_in_bounds : Form → ℕ → ℕ → Bool
 sizes_in_bounds F T P = leb 1 T && leb T F.most_tasks && leb P F.most_promises
 
@@ -91,24 +81,22 @@ room_for T P = P + 2 * T
 abbrev pub most_records : ℕ
 most_records = 256
 
--- ---- the limits of lines
-
 -- "a line number (1 to 999999)"
 abbrev pub last_line : ℕ
 last_line = 999999
 
--- 02, 7/13: "Lines use the large form"
-abbrev pub of_lines : Form
-of_lines = large
+-- ---- the limits of lines follow from the form that they use
 
--- "they and answers grow to 14,336 bytes (also the column of a line too long)"
+abbrev pub of_lines : Form
+of_lines = small
+
 abbrev pub longest_line : ℕ
-longest_line = 14336
+longest_line = of_lines.longest_line
 
 abbrev pub longest_answer : ℕ
-longest_answer = 14336
+longest_answer = of_lines.longest_answer
 
--- "the report to 3,072"
+-- "a report of exactly 384 words"
 abbrev pub line_report : ℕ
 line_report = room_for of_lines.most_tasks of_lines.most_promises
 

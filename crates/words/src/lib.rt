@@ -1,8 +1,8 @@
-// The words of the two tables, the forms that tables are lent in and the limits of each, as constants, and constructors
-// of words.
+// The words of the two tables and the limits of a session, as constants of the kind of word that they belong to, and
+// constructors of words.
 ghost use Rattle.std.specs.Prelude.{true, ◌≡◌, ◌+◌, ◌<◌};
 ghost use Rattle.words.specs.Words.{unused_word, ready_word, ended_word, waits_on, unmade_word, set_word, owned_by};
-ghost use Rattle.words.specs.Words.{blamed_on, Form, large, form_of, sizes_in_bounds, room_for};
+ghost use Rattle.words.specs.Words.{blamed_on, small, sizes_in_bounds, room_for};
 
 // A word of the task table.
 #[derive(Drop)]
@@ -59,6 +59,8 @@ impl PromiseWord {
 
     pub const FIRST_OWNED: u16 = 16;
 
+    pub const FIRST_BLAMED: u16 = 80;
+
     pub fn unmade() -> u16
         ensures { result ≡ unmade_word }
     {
@@ -78,118 +80,63 @@ impl PromiseWord {
         PromiseWord::FIRST_OWNED + t
     }
 
-    // `base` is where the blamed words of a form begin.
-    pub fn blamed_on(base: u16, t: u16) -> u16
-        requires { base + t < 65536 }
-        ensures { result ≡ blamed_on base t }
+    pub fn blamed_on(t: u16) -> u16
+        requires { t < 65456 }
+        ensures { result ≡ blamed_on small.base t }
     {
-        base + t
+        PromiseWord::FIRST_BLAMED + t
     }
 }
 
-// The limits of each form, of a batch and of lines.
+// The limits of a session and of its lines.
 #[derive(Drop)]
 pub struct Limit {
     pub most: usize,
 }
 
 impl Limit {
-    // The small form: where the blamed words begin, the most tasks and the most promises.
-    pub const SMALL_BASE: u16 = 80;
+    pub const TASKS: usize = 64;
 
-    pub const SMALL_TASKS: usize = 64;
+    pub const PROMISES: usize = 256;
 
-    pub const SMALL_PROMISES: usize = 256;
+    // The words that a promise may have are below this one: the last of them blames the last task.
+    pub const PROMISE_WORDS: usize = PromiseWord::FIRST_BLAMED as usize + Limit::TASKS;
 
-    // The large form.
-    pub const LARGE_BASE: u16 = 528;
-
-    pub const LARGE_TASKS: usize = 512;
-
-    pub const LARGE_PROMISES: usize = 2048;
-
-    // The words that a promise of the form may have are below this one: the last of them blames the last task.
-    pub const SMALL_WORDS: usize = Limit::SMALL_BASE as usize + Limit::SMALL_TASKS;
-
-    pub const LARGE_WORDS: usize = Limit::LARGE_BASE as usize + Limit::LARGE_TASKS;
+    // The words of a report that has room for every answer.
+    pub const REPORT: usize = Limit::PROMISES + 2 * Limit::TASKS;
 
     // The records of a batch.
     pub const RECORDS: usize = 256;
 
-    // Lines use the large form: the words of the tables and of the report that are lent with a line.
-    pub const LINE_TASKS: usize = Limit::LARGE_TASKS;
-
-    pub const LINE_PROMISES: usize = Limit::LARGE_PROMISES;
-
-    pub const LINE_REPORT: usize = Limit::LINE_PROMISES + 2 * Limit::LINE_TASKS;
-
     // The bytes of the longest line, without its LF; also the column of a longer one.
-    pub const LINE: usize = 14336;
+    pub const LINE: usize = 2048;
 
     // The entries of the list of an async line: each has at least two bytes.
     pub const ENTRIES: usize = Limit::LINE / 2;
 
     // The bytes of an answer line that has room for every answer.
-    pub const ANSWER: usize = 14336;
+    pub const ANSWER: usize = 2048;
 
     // The largest line number.
     pub const LINES: u32 = 999999;
 }
 
-// The names of the forms: which one it lends, the caller says. What a name stands for is asked of the functions below
-// alone.
-#[derive(Drop)]
-pub enum FormName {
-    Small,
-    Large,
-}
-
-// Where the blamed words begin.
-pub fn base_of(form: FormName) -> u16
-    ensures { result ≡ (form_of form).base }
-{
-    match form {
-        FormName::Small => Limit::SMALL_BASE,
-        FormName::Large => Limit::LARGE_BASE,
-    }
-}
-
-// The most tasks.
-pub fn most_tasks(form: FormName) -> usize
-    ensures { result ≡ (form_of form).most_tasks }
-{
-    match form {
-        FormName::Small => Limit::SMALL_TASKS,
-        FormName::Large => Limit::LARGE_TASKS,
-    }
-}
-
-// The most promises.
-pub fn most_promises(form: FormName) -> usize
-    ensures { result ≡ (form_of form).most_promises }
-{
-    match form {
-        FormName::Small => Limit::SMALL_PROMISES,
-        FormName::Large => Limit::LARGE_PROMISES,
-    }
-}
-
 // Whether the number of tasks and the number of promises are within their bounds.
-pub fn sizes_in_bounds(form: FormName, tasks: usize, promises: usize) -> bool
-    ensures { result ≡ sizes_in_bounds (form_of form) tasks promises }
+pub fn sizes_in_bounds(tasks: usize, promises: usize) -> bool
+    ensures { result ≡ sizes_in_bounds small tasks promises }
 {
     if tasks < 1 {
         return false;
     }
-    if most_tasks(form) < tasks {
+    if Limit::TASKS < tasks {
         return false;
     }
-    promises <= most_promises(form)
+    promises <= Limit::PROMISES
 }
 
-// The words of a report that has room for every answer; no form has larger tables than the large one.
+// The words of a report that has room for every answer.
 pub fn room_for(tasks: usize, promises: usize) -> usize
-    requires { sizes_in_bounds large tasks promises ≡ true }
+    requires { sizes_in_bounds small tasks promises ≡ true }
     ensures { result ≡ room_for tasks promises }
 {
     promises + 2 * tasks

@@ -11,14 +11,14 @@ use borrow.Author.Rules.{rules}
 use lib.ListN.{length}
 use Rattle.words.specs.Words.{small}
 use Rattle.rules.specs.Tables.{tables}
-use Rattle.rules.proofs.Promises.{small-apart}
+use Rattle.rules.proofs.Promises.{small_apart}
 use Rattle.batch.proofs.BatchLaws.{Going, going_start, going_asks, going_turn, going_end, call_refused}
 use Rattle.batch.proofs.batch.Statement.{statement}
 use Rattle.batch.proofs.batch.Proof.Tie as tie
 
 abbrev invariant-loop : tie.invariant-loop
 invariant-loop ts₀ ps₀ rep₀ rs list ans₀ n at₀ i₀ ts ps rep ans at i =
-    Going small small-apart list rs (tables ts₀ ps₀) rep₀ ans₀ i at (tables ts ps) rep ans
+    Going small small_apart list rs (tables ts₀ ps₀) rep₀ ans₀ i at (tables ts ps) rep ans
 
 abbrev decreases-loop : tie.decreases-loop
 decreases-loop ts₀ ps₀ rep₀ rs list ans₀ n at₀ i₀ ts ps rep ans at i = length rs - i
@@ -45,7 +45,7 @@ same-length-2 c = search rules
 returns : tie.Need-returns invariant-loop decreases-loop
 returns c =
     let a = (start c.before).args in
-    call_refused small small-apart a.list.now a.records.now (tables a.tasks.now a.promises.now)
+    call_refused small small_apart a.list.now a.records.now (tables a.tasks.now a.promises.now)
     a.report.now
     a.answers.now c.before.call-refusal.ensures c.if1.true
 

@@ -9,7 +9,7 @@ use lib.ListN.{length}
 use Rattle.words.specs.Words.{small}
 use Rattle.rules.specs.Tables.{tables}
 use Rattle.rules.specs.Refusals.{first}
-use Rattle.rules.proofs.Promises.{small-apart}
+use Rattle.rules.proofs.Promises.{small_apart}
 use Rattle.batch.specs.Batches.{call_rows}
 use Rattle.batch.proofs.BatchLaws.{Going, going_start, going_asks, going_turn, going_end, call_refused}
 use Rattle.batch_words.specs.Flat.{records_of}
@@ -19,7 +19,7 @@ use Rattle.batch_words.proofs.batch_flat.Tie as tie
 
 abbrev invariant-loop : tie.invariant-loop
 invariant-loop ts₀ ps₀ rep₀ steps n list ans₀ refusal at₀ i₀ ts ps rep ans at i =
-    Going small small-apart list (records_of steps) (tables ts₀ ps₀) rep₀ ans₀ i at (tables ts ps) rep ans
+    Going small small_apart list (records_of steps) (tables ts₀ ps₀) rep₀ ans₀ i at (tables ts ps) rep ans
 
 abbrev decreases-loop : tie.decreases-loop
 decreases-loop ts₀ ps₀ rep₀ steps n list ans₀ refusal at₀ i₀ ts ps rep ans at i = n - i
@@ -62,7 +62,7 @@ same-length-2 c = search rules
 returns : tie.Need-returns invariant-loop decreases-loop
 returns c =
     let a = (start c.before).args in
-    call_refused small small-apart a.list.now (records_of a.steps.now)
+    call_refused small small_apart a.list.now (records_of a.steps.now)
     (tables a.tasks.now a.promises.now) a.report.now a.answers.now (asked c.before) c.if1.true
 
 loop-holds : tie.Need-loop-init invariant-loop decreases-loop

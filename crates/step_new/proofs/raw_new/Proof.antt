@@ -1,10 +1,11 @@
 -- `step_new::raw_new` meets its contract: a refusal leaves all as it was, and otherwise the one store is that of the
 -- rules. Assumes nothing.
 use mathlib.Core.Path.{refl, sym, ap, ◌∙◌}
+use Rattle.words.specs.Words.{small}
 use Rattle.words.proofs.ListLaws.{over_none}
 use Rattle.rules.specs.Tables.{Tables, tables, with_promises}
 use Rattle.rules.specs.Refusals.{new_rows}
-use Rattle.rules.proofs.BoundsLaws.{fitting_any}
+use Rattle.rules.proofs.BoundsLaws.{sizes_fit_true}
 use Rattle.rules.proofs.RefusalLaws.{actor_rows_none}
 use Rattle.rules.proofs.GivesLaws.{gives_refused, gives_passed}
 use native.Mathlib.Omega.{arith}
@@ -32,7 +33,7 @@ owned-by-requires : tie.Need-owned-by-requires
 owned-by-requires c κs =
     let asked = c.before in
     let a = (start asked).args in
-    let b = fitting_any a.form (lent (start asked)) (start asked).requires in
+    let b = sizes_fit_true small (lent (start asked)) (start asked).requires in
     let none = sym asked.refusal.ensures ∙ c.if1.false in
     let f = actor_rows_none a.tasks.now a.t (new_rows a.promises.now a.p) none in
     omega (arith, b.tasks, f.0.below)

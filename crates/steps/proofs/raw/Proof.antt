@@ -1,4 +1,5 @@
 -- `steps::raw` meets its contract: each kind goes to the function of its step. Assumes nothing.
+use Rattle.words.specs.Words.{small}
 use Rattle.rules.proofs.BoundsLaws.{in_bounds_sizes}
 use borrow.Author.Rules.{rules}
 use Rattle.steps.proofs.raw.Statement.{statement}
@@ -12,7 +13,7 @@ enum_told : tie.Need-enum-told
 enum_told c = search rules
 
 raw-new-requires : tie.Need-raw-new-requires
-raw-new-requires c κs = in_bounds_sizes _ _ _ (start c.before.before.before.before).requires
+raw-new-requires c κs = in_bounds_sizes small _ _ (start c.before.before.before.before).requires
 
 enum-told-2 : tie.Need-enum-told-2
 enum-told-2 c = search rules
@@ -30,7 +31,7 @@ enum-told-4 : tie.Need-enum-told-4
 enum-told-4 c = search rules
 
 raw-async-requires : tie.Need-raw-async-requires
-raw-async-requires c κs = in_bounds_sizes _ _ _ (start c.before.before.before.before).requires
+raw-async-requires c κs = in_bounds_sizes small _ _ (start c.before.before.before.before).requires
 
 enum-told-5 : tie.Need-enum-told-5
 enum-told-5 c = search rules

@@ -1,4 +1,5 @@
 -- `steps::step` meets its contract: refusal 1 or 2, or what `raw` gives within the bounds. Assumes nothing.
+use Rattle.words.specs.Words.{small}
 use Rattle.rules.proofs.GivesLaws.{gives_refused, gives_passed, bounds_given}
 use borrow.Author.Rules.{rules}
 use Rattle.steps.proofs.step.Statement.{statement}
@@ -21,7 +22,7 @@ returns : tie.Need-returns
 returns c = gives_refused _ _ _ _ c.before.table-refusal.ensures c.if1.true
 
 raw-requires : tie.Need-raw-requires
-raw-requires c κs = bounds_given _ _ _ (passed c).before.table-refusal.ensures (passed c).if1.false
+raw-requires c κs = bounds_given small _ _ (passed c).before.table-refusal.ensures (passed c).if1.false
 
 same-length-3 : tie.Need-same-length-3
 same-length-3 c = search rules

@@ -17,27 +17,13 @@ all-down-requires c κs = search rules
 returns-2 : tie.Need-returns-2
 returns-2 c = sym (c.before.all-down.ensures c.if2.true)
 
-marked-few-requires : tie.Need-marked-few-requires
-marked-few-requires c κs = c.if3.true
+marked-pass-requires : tie.Need-marked-pass-requires
+marked-pass-requires c κs = search rules
 
 returns-3 : tie.Need-returns-3
 returns-3 c = search rules
 
-marked-many-requires : tie.Need-marked-many-requires
-marked-many-requires c κs = search rules
-
-returns-4 : tie.Need-returns-4
-returns-4 c = search rules
-
 pub chains-pass-spec : {M : Type 1} → statement M
 chains-pass-spec =
     tie.close
-    (tie.spec
-    all-up-requires
-    returns
-    all-down-requires
-    returns-2
-    marked-few-requires
-    returns-3
-    marked-many-requires
-    returns-4)
+    (tie.spec all-up-requires returns all-down-requires returns-2 marked-pass-requires returns-3)

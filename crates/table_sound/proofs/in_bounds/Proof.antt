@@ -1,7 +1,6 @@
 -- `table_sound::in_bounds` meets its contract: the sizes are within their bounds, and then the report is long enough
 -- or not. Assumes nothing.
 use mathlib.Core.Path.{sym, ◌∙◌}
-use Rattle.words.proofs.WordLaws.{within_large}
 use Rattle.rules.specs.Tables.{sizes_fit, in_bounds}
 use borrow.Author.Rules.{rules}
 use Rattle.table_sound.proofs.in_bounds.Statement.{statement}
@@ -11,9 +10,7 @@ sizes-in-bounds-requires : tie.Need-sizes-in-bounds-requires
 sizes-in-bounds-requires c κs = search rules
 
 room-for-requires : tie.Need-room-for-requires
-room-for-requires c κs =
-    within_large c.before.before.before.before.args.form _ _
-    (sym c.before.sizes-in-bounds.ensures ∙ c.if1.true)
+room-for-requires c κs = sym c.before.sizes-in-bounds.ensures ∙ c.if1.true
 
 returns : tie.Need-returns
 unfolding in_bounds sizes_fit
