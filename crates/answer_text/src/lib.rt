@@ -1,6 +1,8 @@
 // The text of an answer: its line number, its word and its fields, each written into the rest of the lent answer line
 // from the line's current end `at` on. Each `add_` writer answers the new end. A text without room is cut at the
 // line's end; every answer has room in 2,048 bytes (proofs/Fits.antt).
+#![tactic(auto)]
+
 ghost use Rattle.std.specs.Prelude.{[], ◌∷◌};
 ghost use Rattle.text_buffers.specs.Buffers.{Wrote, Added};
 ghost use Rattle.text_writers.specs.Texts.{fields_text, stretch_of};

@@ -1,4 +1,6 @@
 // The layout of an answer, and an answer as four words: its number, then its values, 0 where it has none.
+#![tactic(auto)]
+
 ghost use Rattle.std.specs.Prelude.{◌≡◌, [], ◌∷◌};
 ghost use Rattle.std.proofs.lemmas.List.Edits.{sets};
 ghost use Rattle.rules.specs.Answers.{none, layout as layout_of, with_none, with_one, with_two, laid, number_of, word_count};

@@ -1,5 +1,7 @@
 // A whole scan's steps in one call. The tables are tested once for the call; that a step leaves sound tables sound is
 // a theorem.
+#![tactic(auto)]
+
 ghost use Rattle.std.specs.Prelude.{◌≡◌, ◌<◌, length};
 ghost use Rattle.words.specs.Words.{small};
 ghost use Rattle.rules.specs.Tables.{tables as tables_of};

@@ -1,5 +1,7 @@
 // The batch for callers that know numbers alone: a record is five words, its kind, its task, its other number, and
 // the start and the length of its part of the list.
+#![tactic(auto)]
+
 ghost use Rattle.std.specs.Prelude.{◌≡◌, ◌*◌, ◌≤◌, length};
 ghost use Rattle.words.specs.Words.{small};
 ghost use Rattle.rules.specs.Tables.{tables as tables_of};

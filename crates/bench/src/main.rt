@@ -3,6 +3,8 @@
 // These are put out where less than an answer line's room is left and after every block, before the next read, so that
 // a partner on a pipe is never left waiting. What is decided about lines stands in the crate line_serving; what becomes
 // of the bytes that are handed to write is held to stdout, and not proved.
+#![tactic(auto)]
+
 ghost use Rattle.std.specs.Prelude.{◌≡◌, ℕ, ◌+◌, ◌<◌, ◌≤◌, true, false, not, ◌&&◌, List, length, replicate, nat_lt};
 ghost use Rattle.words.specs.Words.{longest_line, longest_answer, line_report};
 ghost use Rattle.rules.specs.Tables.{tables as tables_of};

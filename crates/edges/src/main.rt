@@ -3,6 +3,8 @@
 // none did. A refusal has its own number; 101 made, 102 set, 103 value, 104 blamed, 105 waits, 106 cycle, 107
 // started, 108 ended. The file stdin says how a case is written, and a line there that is not understood is said to
 // be so.
+#![tactic(auto)]
+
 mod load;
 mod play;
 mod read;

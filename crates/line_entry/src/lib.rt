@@ -1,4 +1,6 @@
 // The line entry: one line in, one answer line out.
+#![tactic(auto)]
+
 ghost use Rattle.std.specs.Prelude.{◌≡◌, true, ◌≤◌, length};
 ghost use Rattle.words.specs.Words.{of_lines};
 ghost use Rattle.rules.specs.Tables.{tables as tables_of};

@@ -1,4 +1,6 @@
 // What is decided about lines when input comes in blocks.
+#![tactic(auto)]
+
 ghost use Rattle.std.specs.Prelude.{◌≡◌, ◌+◌, min};
 ghost use Rattle.line_gather.specs.Gather.{Gathered, is_last, number_after};
 

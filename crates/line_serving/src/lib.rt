@@ -1,4 +1,6 @@
 // An input that comes in blocks, answered line by line.
+#![tactic(auto)]
+
 ghost use Rattle.rules.specs.Tables.{tables as tables_of};
 ghost use Rattle.line_serving.specs.Serving.{turn_of, answered_turn, Serves};
 ghost use Rattle.line_entry.specs.Lines.{reply_of};

@@ -1,4 +1,6 @@
 // What a line does in a session.
+#![tactic(auto)]
+
 ghost use Rattle.std.specs.Prelude.{◌≡◌, [], true, ◌≤◌, length, take};
 ghost use Rattle.words.specs.Words.{of_lines};
 ghost use Rattle.rules.specs.Tables.{tables as tables_of};

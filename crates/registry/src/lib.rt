@@ -2,6 +2,8 @@
 // as a pointer and a length. A step returns its answer's number and writes four words to `answer`: the number, then
 // the answer's values, 0 where it has none. A batch takes its records as five words each, and returns the refusal of
 // the call, or 0.
+#![tactic(auto)]
+
 ghost use Rattle.std.specs.Prelude.{◌≡◌, length};
 ghost use Rattle.words.specs.Words.{small};
 ghost use Rattle.rules.specs.Tables.{tables as tables_of};

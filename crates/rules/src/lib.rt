@@ -1,4 +1,5 @@
 // The answers. What each step answers, and when, stands in specs/; what is promised of it, in proofs/Promises.antt.
+#![tactic(auto)]
 
 // An answer; the counts and numbers that belong to it are in its cases, the lists are in the report. `Opened` is the
 // answer to a line that opens a session, all others are given by the steps. The place of a refusal is where it lies: in

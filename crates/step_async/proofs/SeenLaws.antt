@@ -13,7 +13,7 @@ use borrow.Author.Tests.{eq-eqb, ne_eqb}
 use lib.ListN.{length, get_or, set, replicate, length-set}
 use Rattle.words.specs.Lists.{all_below}
 use Rattle.words.proofs.BoolLaws.{and_true}
-use Rattle.words.proofs.ListLaws.{set_each, get_d_replicate_same, all_below_none, all_below_fails}
+use Rattle.words.proofs.ListLaws.{set_each, get_or_replicate_same, all_below_none, all_below_fails}
 use Rattle.rules.specs.Refusals.{first, earlier, own_rows, differs, entry_refusal, first_bad}
 use Rattle.rules.proofs.RefusalLaws.{first_append, own_rows_numbered, own_rows_none, first_bad_step, first_bad_end}
 use Rattle.rules.proofs.PlaceLaws.{differs_hit, differs_miss}
@@ -68,7 +68,7 @@ module _ (B : ℕ) (ps : List ℕ) (t : ℕ) (list : List ℕ) where
   judged_start seen e = record {
     within = omega arith;
     long = refl;
-    marks = λ q. rw (e, get_d_replicate_same (length seen) q false, all_below_none (differs list q));
+    marks = λ q. rw (e, get_or_replicate_same (length seen) q false, all_below_none (differs list q));
     rest = rw sub-zero;
   }
 

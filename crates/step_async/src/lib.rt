@@ -1,5 +1,7 @@
 // The step async: a child that was never used becomes ready, and every listed promise passes from the acting task to
 // it, or none does.
+#![tactic(auto)]
+
 ghost use Rattle.std.specs.Prelude.{◌≡◌, [], ◌∷◌, true, false, not, ◌-◌, ◌≤◌, ◌<◌, length, get_or, replicate};
 ghost use Rattle.words.specs.Words.{small};
 ghost use Rattle.words.specs.Lists.{all_below};

@@ -1,5 +1,7 @@
 // The step end: the acting task ends, the promises that it owns are blamed on it, and every task that waits on one of
 // these becomes ready.
+#![tactic(auto)]
+
 ghost use Rattle.std.specs.Prelude.{◌≡◌, true, ◌+◌, ◌≤◌, length};
 ghost use Rattle.std.proofs.lemmas.List.Edits.{sets};
 ghost use Rattle.words.specs.Words.{small, ready_word};

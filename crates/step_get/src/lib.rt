@@ -1,5 +1,7 @@
 // The step get: the value or the blame of a closed promise; otherwise owners are followed, and the task waits, or the
 // ring that it would close is reported.
+#![tactic(auto)]
+
 ghost use Rattle.std.specs.Prelude.{◌≡◌, true, ◌*◌, ◌≤◌, ◌<◌, length, set};
 ghost use Rattle.words.specs.Words.{small, Form, waits_on};
 ghost use Rattle.rules.specs.Tables.{tables as tables_of, in_bounds};

@@ -1,5 +1,7 @@
 // The refusals that look at one number of a step: each function returns the first that applies, and 0 where none
 // does. They ask nothing of their caller.
+#![tactic(auto)]
+
 ghost use Rattle.std.specs.Prelude.{◌≡◌};
 ghost use Rattle.words.specs.Words.{small};
 ghost use Rattle.rules.specs.Refusals.{earlier as earlierOf, first, actor_rows, child_rows, new_rows, get_rows, own_rows};

@@ -1,4 +1,6 @@
 // The kinds of steps, and what each takes.
+#![tactic(auto)]
+
 ghost use Rattle.std.specs.Prelude.{◌≡◌};
 ghost use Rattle.step_kinds.specs.Kinds.{shape_of, takes_list};
 

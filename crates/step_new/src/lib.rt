@@ -1,4 +1,6 @@
 // The step new: a promise that was never made becomes owned by the acting task.
+#![tactic(auto)]
+
 ghost use Rattle.std.specs.Prelude.{◌≡◌, true};
 ghost use Rattle.words.specs.Words.{small};
 ghost use Rattle.rules.specs.Tables.{tables as tables_of, sizes_fit};

@@ -1,4 +1,6 @@
 // The step set: its owner sets a promise, and every task that waits on it becomes ready.
+#![tactic(auto)]
+
 ghost use Rattle.std.specs.Prelude.{◌≡◌, true, ◌-◌, length, get_or};
 ghost use Rattle.words.specs.Words.{small};
 ghost use Rattle.rules.specs.Tables.{tables as tables_of, in_bounds};

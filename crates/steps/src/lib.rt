@@ -1,4 +1,6 @@
 // A step, as its kind and its numbers name it: the one place that goes from a kind to the function of its step.
+#![tactic(auto)]
+
 ghost use Rattle.std.specs.Prelude.{◌≡◌, true, length};
 ghost use Rattle.words.specs.Words.{small};
 ghost use Rattle.rules.specs.Tables.{tables as tables_of, in_bounds};

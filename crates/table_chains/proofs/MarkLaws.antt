@@ -8,7 +8,7 @@ use native.Mathlib.Omega.{arith}
 use borrow.Author.Tests.{le-leb, lt-leb}
 use lib.ListN.{length, get_or, set, replicate, length-set}
 use Rattle.words.specs.Words.{first_wait}
-use Rattle.words.proofs.ListLaws.{set_each, get_d_replicate_same}
+use Rattle.words.proofs.ListLaws.{set_each, get_or_replicate_same}
 use Rattle.rules.specs.Tables.{Tables, task_at}
 use Rattle.rules.specs.Chains.{view}
 use Rattle.rules.specs.Sound.{ready, lost, to, hop, comes, comes_in_time}
@@ -140,4 +140,4 @@ module _ (s : Tables) (v : ℕ) where
 
 -- no mark at all
 pub marked_none : (s : Tables) (n : ℕ) → Marked s (replicate n 0)
-marked_none s n = λ u h. absurd (h (get_d_replicate_same n u 0))
+marked_none s n = λ u h. absurd (h (get_or_replicate_same n u 0))

@@ -1,5 +1,7 @@
 // Whether every chain comes to a ready task. No link is walked twice: a walk marks the tasks on its way, and ends where
 // an earlier walk has been.
+#![tactic(auto)]
+
 ghost use Rattle.std.specs.Prelude.{◌≡◌, true, ◌<◌, length};
 ghost use Rattle.words.specs.Words.{small};
 ghost use Rattle.words.specs.Lists.{all_below};

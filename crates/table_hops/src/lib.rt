@@ -1,4 +1,6 @@
 // Where a hop from a task leads: what every chain is made of.
+#![tactic(auto)]
+
 ghost use Rattle.std.specs.Prelude.{◌≡◌, length};
 ghost use Rattle.rules.specs.Chains.{view_of};
 ghost use Rattle.rules.specs.Sound.{hop as hopOf, hop_owner};

@@ -1,4 +1,6 @@
 // The soundness test of the tables, and refusals 1 and 2, which every step gives first.
+#![tactic(auto)]
+
 ghost use Rattle.std.specs.Prelude.{true, ◌≡◌};
 ghost use Rattle.words.specs.Words.{small};
 ghost use Rattle.rules.specs.Tables.{tables, sizes_fit, in_bounds};

@@ -1,5 +1,7 @@
 // Following owners on behalf of a get: whether the way comes back to the asker, and the pairs of the ring that it
 // closes.
+#![tactic(auto)]
+
 ghost use Rattle.std.specs.Prelude.{◌≡◌, length};
 ghost use Rattle.std.proofs.lemmas.List.Edits.{sets};
 ghost use Rattle.rules.specs.Chains.{view_of};

@@ -14,7 +14,7 @@ use lib.ListN.{length, get_or, set, replicate, length-set, length-replicate}
 use Rattle.words.specs.Words.{unused_word, ready_word, ended_word, first_wait, unmade_word, set_word, first_owned}
 use Rattle.words.specs.Lists.{all_below, is}
 use Rattle.words.proofs.BoolLaws.{and_split, and_false, and_true, or_split, or_left, or_right, true_is_not_false}
-use Rattle.words.proofs.ListLaws.{set_each, get_d_replicate_same, all_below_same, all_below_at, all_below_make}
+use Rattle.words.proofs.ListLaws.{set_each, get_or_replicate_same, all_below_same, all_below_at, all_below_make}
 use Rattle.rules.specs.Tables.{tables, live}
 use Rattle.rules.specs.Sound.{promise_word_passes, promise_passes}
 use Rattle.table_words.specs.Allowed.{every_word, task_word_passes, below, allowed, noted, Noted, MayHold, Fills}
@@ -191,7 +191,7 @@ opened_says n w h =
     other j k =
         set_each (λ i x. i ≢ set_word → x ≡ (eqb i unmade_word || eqb i set_word)) (replicate n false) unmade_word true
         false (omega (arith, length-replicate {A = Bool} n false)) (λ z. refl)
-        (λ i z y. rw (ne_eqb i unmade_word z, ne_eqb i set_word y) (get_d_replicate_same n i false)) j k
+        (λ i z y. rw (ne_eqb i unmade_word z, ne_eqb i set_word y) (get_or_replicate_same n i false)) j k
 
 -- at most one of three parts applies to a word: what it may be otherwise, its owner's, and who is blamed
 one_part : (a b x y st : Bool) → (a ≡ true → st ≡ false) → (b ≡ true → st ≡ false) → (a ≡ true → b ≡ false)

@@ -1,5 +1,7 @@
 // Each word of the tables by itself: whether it is one that may stand there. No loop here leaves before its end, so
 // that it goes through several words at once.
+#![tactic(auto)]
+
 ghost use Rattle.std.specs.Prelude.{◌≡◌, true, cond, ◌+◌, ◌≤◌, ◌<◌, ltb, length};
 ghost use Rattle.words.specs.Words.{small, ended_word};
 ghost use Rattle.words.specs.Lists.{all_below, is};

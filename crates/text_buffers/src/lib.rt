@@ -1,6 +1,8 @@
 // A lent buffer that a text is written into, byte by byte. A text that is longer than the buffer is cut at the
 // buffer's end, so that writing needs no leave: whoever lends enough room has the whole text (`wrote_room`,
 // `added_room`).
+#![tactic(auto)]
+
 ghost use Rattle.std.specs.Prelude.{[], ◌∷◌};
 ghost use Rattle.text_buffers.specs.Buffers.{Added};
 

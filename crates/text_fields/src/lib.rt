@@ -1,6 +1,8 @@
 // Fields of a line, parted by tabs. A place in a line of n bytes is 0 to n + 1: a field may start at n, and is then
 // empty (a line that ends in a tab has such a last field); n + 1 is the start of no field, and says that there are no
 // more.
+#![tactic(auto)]
+
 ghost use Rattle.std.specs.Prelude.{◌≡◌};
 ghost use Rattle.text_fields.specs.Fields.{end_from, field_end, next_start, FieldOf};
 

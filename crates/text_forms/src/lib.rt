@@ -1,4 +1,6 @@
 // Whether a line has one of the forms, which, and the column where it goes bad if it has none.
+#![tactic(auto)]
+
 ghost use Rattle.std.specs.Prelude.{◌≡◌, drop};
 ghost use Rattle.words.specs.Lists.{over};
 ghost use Rattle.text_buffers.specs.Buffers.{fitting};

@@ -1,4 +1,6 @@
 // The words that start a line.
+#![tactic(auto)]
+
 ghost use Rattle.std.specs.Prelude.{◌≡◌};
 ghost use Rattle.text_keywords.specs.Keywords.{keyword_of, larger, longest, keywords, common as commonOf};
 ghost use Rattle.text_keywords.specs.Keywords.{same as sameOf};

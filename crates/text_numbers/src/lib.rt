@@ -1,4 +1,6 @@
 // A number in a line: read from its field, and written in its digits.
+#![tactic(auto)]
+
 ghost use Rattle.std.specs.Prelude.{◌≡◌, [], ◌∷◌, ◌+◌, ◌%◌, ◌<◌};
 ghost use Rattle.text_buffers.specs.Buffers.{Wrote, Added};
 ghost use Rattle.text_numbers.specs.Numbers.{number_in, last_three, dec};

@@ -1,6 +1,8 @@
 // The reader of a line: the one lent line, and where its next field starts. Its functions take it apart and call
 // `text_fields` on the slice and the number. `field_from` and `next_from` have plain parameters: whoever reads a line
 // calls these, carries from field to field where the next one starts, and needs no proof by hand.
+#![tactic(auto)]
+
 ghost use Rattle.std.specs.Prelude.{◌≡◌};
 ghost use Rattle.text_fields.specs.Fields.{next_start, FieldOf};
 

@@ -1,6 +1,8 @@
 // One record a line: its word, and its numbers, each field handed back by a reader of the line. What is carried from
 // field to field is where the next field starts, by the reader; a place past the line says that there is none. A line
 // that is no record has the column of its first bad byte.
+#![tactic(auto)]
+
 ghost use Rattle.std.specs.Prelude.{◌≡◌};
 ghost use Rattle.text_records.specs.Records.{number_at, pair_at, last_pair, of_one, after_kind, record_of};
 ghost use Rattle.step_kinds.specs.Kinds.{shape_of};

@@ -2,6 +2,8 @@
 // how many bytes it wrote. Each `add_` writer lends such a rest, from the line's current end `at` on, and answers the
 // new end. A text without room is cut at the line's end, so no writer asks leave; with room the whole text is there
 // (`wrote_room`, `added_room` of `text_buffers`).
+#![tactic(auto)]
+
 ghost use Rattle.std.specs.Prelude.{◌≡◌, ◌+◌, ◌-◌, min};
 ghost use Rattle.text_buffers.specs.Buffers.{Wrote, Added};
 ghost use Rattle.text_numbers.specs.Numbers.{dec};

@@ -86,16 +86,16 @@ unfolding changed
 changed_miss f x w e = cond_false (f w) x w e
 
 -- a map that leaves 0 acts on the word that is read
-pub get_d_map : (f : ℕ → ℕ) (l : List ℕ) (n : ℕ) → f 0 ≡ 0 → get_or (map f l) n 0 ≡ f (get_or l n 0)
-get_d_map f l n z = subst (λ (d : ℕ). get_or (map f l) n d ≡ f (get_or l n 0)) z (ListN.get_d_map f l n 0)
+pub get_or_map : (f : ℕ → ℕ) (l : List ℕ) (n : ℕ) → f 0 ≡ 0 → get_or (map f l) n 0 ≡ f (get_or l n 0)
+get_or_map f l n z = subst (λ (d : ℕ). get_or (map f l) n d ≡ f (get_or l n 0)) z (ListN.get_or-map f l n 0)
 
 pub replaced_hit : (f : ℕ → Bool) (x : ℕ) (l : List ℕ) (n : ℕ) → f 0 ≡ false → f (get_or l n 0) ≡ true
     → get_or (replaced f x l) n 0 ≡ x
-replaced_hit f x l n z e = get_d_map (changed f x) l n (changed_miss f x 0 z) ∙ changed_hit f x (get_or l n 0) e
+replaced_hit f x l n z e = get_or_map (changed f x) l n (changed_miss f x 0 z) ∙ changed_hit f x (get_or l n 0) e
 
 pub replaced_miss : (f : ℕ → Bool) (x : ℕ) (l : List ℕ) (n : ℕ) → f 0 ≡ false → f (get_or l n 0) ≡ false
     → get_or (replaced f x l) n 0 ≡ get_or l n 0
-replaced_miss f x l n z e = get_d_map (changed f x) l n (changed_miss f x 0 z) ∙ changed_miss f x (get_or l n 0) e
+replaced_miss f x l n z e = get_or_map (changed f x) l n (changed_miss f x 0 z) ∙ changed_miss f x (get_or l n 0) e
 
 pub length_replaced : (f : ℕ → Bool) (x : ℕ) (l : List ℕ) → length (replaced f x l) ≡ length l
 length_replaced f x l = length-map l (changed f x)
@@ -151,10 +151,10 @@ set_each {A} P l i a d h new old j = go (ℕ_discrete j i)
     go (no n) = subst (P j) (sym (get_or-set_other l i j a d n)) (old j n)
 
 -- a list of one value reads as that value, past its end too
-pub get_d_replicate_same : {A : Type 0} (n i : ℕ) (a : A) → get_or (replicate n a) i a ≡ a
-get_d_replicate_same zero i a = refl
-get_d_replicate_same (suc n) zero a = refl
-get_d_replicate_same (suc n) (suc i) a = get_d_replicate_same n i a
+pub get_or_replicate_same : {A : Type 0} (n i : ℕ) (a : A) → get_or (replicate n a) i a ≡ a
+get_or_replicate_same zero i a = refl
+get_or_replicate_same (suc n) zero a = refl
+get_or_replicate_same (suc n) (suc i) a = get_or_replicate_same n i a
 
 -- ---- places
 

@@ -1,5 +1,7 @@
 // The words of the two tables and the limits of a session, as constants of the kind of word that they belong to, and
 // constructors of words.
+#![tactic(auto)]
+
 ghost use Rattle.std.specs.Prelude.{true, ◌≡◌, ◌+◌, ◌<◌};
 ghost use Rattle.words.specs.Words.{unused_word, ready_word, ended_word, waits_on, unmade_word, set_word, owned_by};
 ghost use Rattle.words.specs.Words.{blamed_on, small, sizes_in_bounds, room_for};
