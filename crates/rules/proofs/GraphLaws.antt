@@ -4,7 +4,7 @@
 use mathlib.Core.Path.{◌≡◌, refl, sym, ap, ap₂, subst, ◌∙◌}
 use mathlib.Core.Logic.{◌⊎◌, inl, inr, ◌≢◌}
 use mathlib.Core.List.{List, [], ◌∷◌, ◌++◌}
-use Prim.Native.Nat.{ℕ, ◌+◌, ◌<◌}
+use Prim.Native.Nat.{ℕ, ◌<◌}
 use native.Mathlib.Omega.{arith}
 use native.Mathlib.Decide.{ℕ_discrete}
 use lib.ListN.{length}
@@ -29,12 +29,14 @@ module _ (g : Graph) where
 
   -- the part of a chain from one of its tasks on
   pub tail_of : {t x : ℕ} {l : List ℕ} → Chain g t l → In x l → (l' : List ℕ) × Chain g x l' × (length l' < length l)
+  tail_of (here r) i = elim i [ ]
   tail_of (link {l = l} k c) top = (l, c, omega arith)
   tail_of (link k c) (pop i) = let (l', c', h) = tail_of c i in (l', c', omega arith)
 
   -- each task on a chain is ready or waits
   pub on_chain : {t x : ℕ} {l : List ℕ} → Chain g t l → In x (t ∷ l) → g.ready x ⊎ ((w : ℕ) × (u : ℕ) × g.link x w u)
   on_chain (here r) top = inl r
+  on_chain (here r) (pop i) = elim i [ ]
   on_chain (link {p = w} {u = u} k c) top = inr (w, u, k)
   on_chain (link k c) (pop i) = on_chain c i
 
@@ -67,6 +69,7 @@ module _ (g : Graph) (d : Det g) where
   -- a ready task on a chain is its end
   pub ready_is_end : {t x : ℕ} {l : List ℕ} → Chain g t l → In x (t ∷ l) → g.ready x → x ≡ chain_end t l
   ready_is_end (here r) top q = refl
+  ready_is_end (here r) (pop i) q = elim i [ ]
   ready_is_end (link k c) top q = absurd (d.not_both _ _ _ q k)
   ready_is_end (link k c) (pop i) q = ready_is_end c i q
 
@@ -92,6 +95,7 @@ module _ (g g' : Graph) (t : ℕ) (d : Det g) (f : Frame g g' t) where
   pub words_stay : {v x w u : ℕ} {l : List ℕ} → Chain g v l → chain_end v l ≢ t → In x (v ∷ l) → g.link x w u
       → g'.link x w u
   words_stay (here r) h top k = absurd (d.not_both _ _ _ r k)
+  words_stay (here r) h (pop i) k = elim i [ ]
   words_stay {u = u} (link {u = y} {l = l} k' c) h top k = f.keep _ _ _ far k
     where
       far : u ≢ t

@@ -54,7 +54,7 @@ first_given [] r n e = absurd (n (sym e))
 first_given ((q, true) ∷ rows) r n e = subst (λ (x : ℕ). FirstGiven x ((q, true) ∷ rows)) e now
 first_given ((q, false) ∷ rows) r n e = later (first_given rows r n e)
 
-pub given_first : {rows : List Row} {r : ℕ} → FirstGiven r rows → first rows ≡ r
+pub given_first : {r : ℕ} {rows : List Row} → FirstGiven r rows → first rows ≡ r
 unfolding first
 given_first now = refl
 given_first (later g) = given_first g
@@ -71,6 +71,7 @@ first_none_given (row {b = true} n rest) e = absurd (n e)
 first_none_given (row {b = false} n rest) e = not_this (first_none_given rest e)
 
 pub given_number : {rows : List Row} {r : ℕ} → Numbered rows → FirstGiven r rows → r ≢ 0
+given_number laws.no_row g = elim g [ ]
 given_number (row n rest) now = n
 given_number (row n rest) (later g) = given_number rest g
 
@@ -392,7 +393,7 @@ number_refuses a h = go (accepted_or_refused a)
 
 -- ---- a step is refused by a number of its own
 
-pub given_in : {rows : List Row} {r : ℕ} → FirstGiven r rows → In r (numbers rows)
+pub given_in : {r : ℕ} {rows : List Row} → FirstGiven r rows → In r (numbers rows)
 given_in now = top
 given_in (later g) = pop (given_in g)
 
