@@ -250,7 +250,8 @@ module _ (F : Form) (apart : Apart F) (n : ℕ) (s : Tables) where
       )
 
   -- an alarm changes no table
-  pub alarm_unchanged : (t p k : ℕ) → (step F n s (step_get t p)).answer ≡ Cycle k → (step F n s (step_get t p)).after ≡ s
+  pub alarm_unchanged : (t p k : ℕ) → (step F n s (step_get t p)).answer ≡ Cycle k
+      → (step F n s (step_get t p)).after ≡ s
   alarm_unchanged t p k e =
       let a = alarm_means t p k e in
       let g = accepted_good F apart n s (step_get t p) (Cycle k) (λ r. elim r [ ]) e in

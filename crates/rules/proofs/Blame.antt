@@ -69,7 +69,8 @@ module _ (F : Form) (apart : Apart F) (n : ℕ) (s : Tables) where
     unfolding refused_with
     set_nine g room r e = own_gives g room r 9 (eqb-false 9 0 refl) (set_is_nine F.base s.promises t p [] e)
 
-    pub nine_set : (step F n s (step_set t p)).answer ≡ Refused 9 → (task_at s t ≡ ready_word) × (promise_at s p ≡ set_word)
+    pub nine_set : (step F n s (step_set t p)).answer ≡ Refused 9
+        → (task_at s t ≡ ready_word) × (promise_at s p ≡ set_word)
     nine_set e =
         let plain = step_refused_plain F s (step_set t p) 9 (eqb-false 9 17 refl) in
         let (r, e₁) = own_given 9 (omega arith) (given_first (refused_first F n s (step_set t p) 9 (e ∙ sym plain))) in

@@ -42,5 +42,6 @@ table_rows_none F n s e =
     (a, b)
 
 -- so the bounds hold for what follows
-pub bounds_given : (F : Form) (n : ℕ) (s : Tables) {r : ℕ} → r ≡ first (table_rows F n s) → r ≡ 0 → in_bounds F n s ≡ true
+pub bounds_given : (F : Form) (n : ℕ) (s : Tables) {r : ℕ} → r ≡ first (table_rows F n s) → r ≡ 0
+    → in_bounds F n s ≡ true
 bounds_given F n s e z = (table_rows_none F n s (sym e ∙ z)).0

@@ -44,7 +44,8 @@ guarded_is f r s o Q stays passed = guarded_by (λ (x : Outcome). Q x.after) f r
 -- a get that is not refused answers value, blamed, cycle or waits
 pub got_cases : (Q : Outcome → Type 0) (B : ℕ) (s : Tables) (t p w : ℕ) → Q (outcome Value s [])
     → ((b : ℕ) → Q (outcome (Blamed b) s []))
-    → ((k : ℕ) → Q (outcome (Cycle k) s (pairs k (view s) t p))) → ((k : ℕ) → Q (outcome (Waits k) (with_wait s t p) []))
+    → ((k : ℕ) → Q (outcome (Cycle k) s (pairs k (view s) t p)))
+    → ((k : ℕ) → Q (outcome (Waits k) (with_wait s t p) []))
     → Q (got B s t p w)
 unfolding got followed
 got_cases Q B s t p w v b c k = go (eqb w set_word) (leb B w) (walk_from s t (w - first_owned))

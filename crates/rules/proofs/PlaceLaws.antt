@@ -68,7 +68,8 @@ module _ (B : ℕ) (ps : List ℕ) (t : ℕ) (list : List ℕ) where
       let different = entries_no_dup list k (λ j b. (entry_refusal_none B ps t list j (good j b)).2) in
       let owned : (x : ℕ) → In x (entries list k) → is (owned_by t) (get_or ps x 0) ≡ true = λ x i.
       let (j, b, e) = entries_at list k x i in
-      is_hit (owned_by t) (get_or ps x 0) (ap (λ (y : ℕ). get_or ps y 0) e ∙ (entry_refusal_none B ps t list j (good j b)).1)
+      is_hit (owned_by t) (get_or ps x 0) (ap (λ (y : ℕ). get_or ps y 0) e
+      ∙ (entry_refusal_none B ps t list j (good j b)).1)
       in
       let most =
       pigeon (is (owned_by t)) (is_miss (owned_by t) 0 (λ (e : 0 ≡ owned_by t). omega arith)) (entries list k) ps

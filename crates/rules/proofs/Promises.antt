@@ -8,7 +8,8 @@ use mathlib.Core.Bool.{true}
 use Prim.Native.Nat.{ℕ, ◌+◌, ◌≤◌, ◌<◌}
 use lib.Dec.{ltb, lit≤}
 use lib.ListN.{length, get_or, replicate}
-use Rattle.words.specs.Words.{Form, small, unused_word, ready_word, ended_word, waits_on, unmade_word, set_word, first_owned}
+use Rattle.words.specs.Words.{Form, small, unused_word, ready_word, ended_word, waits_on, unmade_word, set_word}
+use Rattle.words.specs.Words.{first_owned}
 use Rattle.words.specs.Words.{owned_by, blamed_on}
 use Rattle.words.specs.Lists.{In}
 use Rattle.rules.specs.Tables.{Tables, tables, sizes_fit, room_of, task_at, promise_at, Live, live_tasks, closed}

@@ -93,7 +93,8 @@ ready_acts ts t r rows =
 
 -- ---- the other numbers
 
-pub child_rows_none : (ts : List ℕ) (c : ℕ) → first (child_rows ts c) ≡ 0 → (c < length ts) × (get_or ts c 0 ≡ unused_word)
+pub child_rows_none : (ts : List ℕ) (c : ℕ) → first (child_rows ts c) ≡ 0
+    → (c < length ts) × (get_or ts c 0 ≡ unused_word)
 child_rows_none ts c e =
     let (a, e₁) = first_past 11 (not (ltb c (length ts))) _ (eqb-false 11 0 refl) e in
     let (b, e₂) = first_past 12 (not (eqb (get_or ts c 0) unused_word)) _ (eqb-false 12 0 refl) e₁ in (
@@ -215,7 +216,8 @@ unfolding first_bad
 first_bad_before f zero i j h k = absurd (omega arith)
 first_bad_before f (suc n) i j h k = go (first_bad_before f n (suc i) j) (eqb (f i) 0) refl k
   where
-    at_i : (suc i ≤ j → j < first_bad f n (suc i) → f j ≡ 0) → f i ≡ 0 → j < first_bad f n (suc i) → Dec (j ≡ i) → f j ≡ 0
+    at_i : (suc i ≤ j → j < first_bad f n (suc i) → f j ≡ 0) → f i ≡ 0 → j < first_bad f n (suc i) → Dec (j ≡ i)
+        → f j ≡ 0
     at_i rec z m (yes e) = ap f e ∙ z
     at_i rec z m (no d) = rec (omega arith) m
 

@@ -61,7 +61,8 @@ module _ (W : ℕ → Type 0) where
   -- the words of its tasks, and of what they await, are the same
   abbrev Same : Tables → Tables → Type 0
   Same s s' =
-      (v : ℕ) → W v → (task_at s' v ≡ task_at s v) × ((p : ℕ) → task_at s v ≡ waits_on p → promise_at s' p ≡ promise_at s p)
+      (v : ℕ) → W v → (task_at s' v ≡ task_at s v)
+      × ((p : ℕ) → task_at s v ≡ waits_on p → promise_at s' p ≡ promise_at s p)
 
   stuck_same : (s s' : Tables) → Stuck s → Same s s' → Stuck s'
   stuck_same s s' st same v m =
@@ -143,7 +144,8 @@ module _ (W : ℕ → Type 0) where
       same_trans s s' (ran (untested F) s' xs) one (stuck_run F s' (stuck_same s s' st one) xs)
 
 -- whoever waits on a promise of the crowd belongs to it
-joined : (W : ℕ → Type 0) (s : Tables) → Stuck W s → (t p u : ℕ) → task_at s t ≡ ready_word → promise_at s p ≡ owned_by u
+joined : (W : ℕ → Type 0) (s : Tables) → Stuck W s → (t p u : ℕ) → task_at s t ≡ ready_word
+    → promise_at s p ≡ owned_by u
     → W u → Stuck (λ v. (v ≡ t) ⊎ W v) (with_wait s t p)
 joined W s st t p u r o m v (inl e) =
     let b : t < length s.tasks = within_table s.tasks t (λ (z : task_at s t ≡ 0). omega arith) in
@@ -181,7 +183,8 @@ pair_of (and_then w o n r) (later_pair i) = later _ _ _ _ (pair_of r i)
 
 -- the same words, the same ring
 leads_same : {s s' : Tables} {t v p : ℕ} {ws : List ℕ} → LeadsTo s t v p ws
-    → ((u q : ℕ) → Pair u q ws → task_at s u ≡ waits_on q → (task_at s' u ≡ task_at s u) × (promise_at s' q ≡ promise_at s q))
+    → ((u q : ℕ) → Pair u q ws → task_at s u ≡ waits_on q
+    → (task_at s' u ≡ task_at s u) × (promise_at s' q ≡ promise_at s q))
     → LeadsTo s' t v p ws
 leads_same (at_last {v = v} {p = p} w o) same = let (a, b) = same v p this_pair w in at_last (a ∙ w) (b ∙ o)
 leads_same (and_then {v = v} {p = p} w o n r) same =

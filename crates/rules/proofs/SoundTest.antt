@@ -10,7 +10,8 @@ use native.Mathlib.Decide.{dec_lt}
 use lib.Dec.{eqb, leb, ltb}
 use borrow.Author.Tests.{eqb-true, leb-true, ltb-true, eq-eqb, le-leb, lt-ltb}
 use lib.ListN.{length, get_or-eq_default}
-use Rattle.words.specs.Words.{unused_word, ready_word, ended_word, waits_on, first_wait, unmade_word, set_word, owned_by}
+use Rattle.words.specs.Words.{unused_word, ready_word, ended_word, waits_on, first_wait, unmade_word, set_word}
+use Rattle.words.specs.Words.{owned_by}
 use Rattle.words.specs.Words.{first_owned, blamed_on}
 use Rattle.words.specs.Lists.{all_below}
 use Rattle.words.proofs.BoolLaws.{and_yes, and_split, or_split, or_left, or_right}
@@ -100,7 +101,8 @@ module _ (B : ℕ) (s : Tables) where
       go₁ (inl a) = p_unmade (eqb-true _ _ a)
       go₁ (inr a) = p_done (eqb-true _ _ a)
 
-      go₂ : ((eqb (promise_at s q) 0 || eqb (promise_at s q) 1) ≡ true) ⊎ (is_owned_by (promise_at s q) ≡ true) → PromIs q
+      go₂ : ((eqb (promise_at s q) 0 || eqb (promise_at s q) 1) ≡ true) ⊎ (is_owned_by (promise_at s q) ≡ true)
+          → PromIs q
       go₂ (inl a) = go₁ (or_split _ _ a)
       go₂ (inr a) =
           let (bc, r) = and_split _ _ a in

@@ -10,7 +10,8 @@ use lib.Dec.{leb}
 use borrow.Author.Tests.{eqb-true, leb-true, eq-eqb, le-leb}
 use lib.ListN.{length, get_or, set}
 use lib.Seq.{get_or-set_same, get_or-set_other, lt-length-set}
-use Rattle.words.specs.Words.{unused_word, ready_word, ended_word, waits_on, first_wait, unmade_word, owned_by, blamed_on}
+use Rattle.words.specs.Words.{unused_word, ready_word, ended_word, waits_on, first_wait, unmade_word, owned_by}
+use Rattle.words.specs.Words.{blamed_on}
 use Rattle.words.specs.Lists.{is, replaced, In, top, pop}
 use Rattle.words.proofs.BoolLaws.{and_yes, and_no, and_split, true_is_not_false}
 use Rattle.words.proofs.ListLaws.{is_hit, is_miss, replaced_hit, replaced_miss, length_replaced}
@@ -60,7 +61,8 @@ read_given w (x ∷ l) ps h q =
     go : (get_or (given w l (set ps x w)) q 0 ≡ get_or (set ps x w) q 0)
         ⊎ (In q l × (get_or (given w l (set ps x w)) q 0 ≡ w))
         → Dec (q ≡ x)
-        → (get_or (given w l (set ps x w)) q 0 ≡ get_or ps q 0) ⊎ (In q (x ∷ l) × (get_or (given w l (set ps x w)) q 0 ≡ w))
+        → (get_or (given w l (set ps x w)) q 0 ≡ get_or ps q 0)
+        ⊎ (In q (x ∷ l) × (get_or (given w l (set ps x w)) q 0 ≡ w))
     go (inr i) e = inr (pop i.0, i.1)
     go (inl r) (yes e) =
         inr (
@@ -226,8 +228,11 @@ module _ (T P B : ℕ) (fits : 16 + T ≤ B) (s : Tables) (sd : SoundView T P B 
     new_sound = record {
       moves = new_moves T P B s t t<T rt p p<P free;
       open_still = λ v q w.
-          let (u, h, o) = sd.awaited_owned v q w in
-          (u, h, get_or-set_other s.promises p q (owned_by t) 0 (λ (e : q ≡ p). omega (arith, ap (promise_at s) e)) ∙ o);
+          let (u, h, o) = sd.awaited_owned v q w in (
+            u,
+            h,
+            get_or-set_other s.promises p q (owned_by t) 0 (λ (e : q ≡ p). omega (arith, ap (promise_at s) e)) ∙ o,
+          );
       left = λ e. absurd (omega arith);
       wait = λ q e. absurd (omega arith);
     }
@@ -285,7 +290,8 @@ module _ (T P B : ℕ) (fits : 16 + T ≤ B) (s : Tables) (sd : SoundView T P B 
   module _ (c : ℕ) (c<T : c < T) (c<n : c < length s.tasks) (fresh : task_at s c ≡ unused_word) (l : List ℕ)
       (inside : (q : ℕ) → In q l → q < length s.promises) (mine : (q : ℕ) → In q l → promise_at s q ≡ owned_by t) where
     async_open₁ : (v q : ℕ) → task_at s v ≡ waits_on q
-        → (promise_at (with_started s c l) q ≡ promise_at s q) ⊎ (In q l × (promise_at (with_started s c l) q ≡ owned_by c))
+        → (promise_at (with_started s c l) q ≡ promise_at s q)
+        ⊎ (In q l × (promise_at (with_started s c l) q ≡ owned_by c))
         → (u : ℕ) × (u < T) × (promise_at (with_started s c l) q ≡ owned_by u)
     async_open₁ v q w (inl e) = let (u, h, o) = sd.awaited_owned v q w in (u, h, e ∙ o)
     async_open₁ v q w (inr i) = (c, c<T, i.1)

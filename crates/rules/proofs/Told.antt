@@ -102,7 +102,9 @@ module _ (F : Form) (n : ℕ) (s : Tables) where
       (entry_read t c list i b r (given_in bad.given))
     where
       bad : BadPlace F.base s.promises t list r i
-      bad = (placed_first F n s t c list r i b (subst (λ (y : Step). (step F n s y).answer ≡ refused_at_with b i r) z e)).1
+      bad =
+          (placed_first F n s t c list r i b
+          (subst (λ (y : Step). (step F n s y).answer ≡ refused_at_with b i r) z e)).1
 
   step_read : (x : Step) → ReadBack x (step F n s x).answer
   step_read x = go (accepted_or_refused (step F n s x).answer)

@@ -21,7 +21,8 @@ module _ (T : ℕ) (s : View) (w : ℕ) where
   pub data HopIs : Type 0 where
     is_ready : w ≡ ready_word → hop_word T s w ≡ ready → HopIs
     is_to : (p u : ℕ) → w ≡ waits_on p → s.promise p ≡ owned_by u → u < T → hop_word T s w ≡ to u → HopIs
-    is_lost : w ≢ ready_word → ((p u : ℕ) → w ≡ waits_on p → s.promise p ≡ owned_by u → u < T → ⊥) → hop_word T s w ≡ lost
+    is_lost : w ≢ ready_word → ((p u : ℕ) → w ≡ waits_on p → s.promise p ≡ owned_by u → u < T → ⊥)
+        → hop_word T s w ≡ lost
         → HopIs
 
   pub hop_yes : w ≡ ready_word → hop_word T s w ≡ ready
@@ -48,7 +49,8 @@ module _ (T : ℕ) (s : View) (w : ℕ) where
       at p u e o = ap (λ (x : ℕ). s.promise x) (omega arith) ∙ o
 
       go : Dec (w ≡ ready_word) → (a : Bool) → leb first_wait w ≡ a → (b : Bool)
-          → (leb first_wait (s.promise (w - first_wait)) && ltb (s.promise (w - first_wait) - first_owned) T) ≡ b → HopIs
+          → (leb first_wait (s.promise (w - first_wait)) && ltb (s.promise (w - first_wait) - first_owned) T) ≡ b
+          → HopIs
       go (yes e) a x b y = is_ready e (hop_yes e)
       go (no n) true x true y =
           let (c, d) = and_split _ _ y in

@@ -1,16 +1,16 @@
 -- The paper's number and values for each answer. Paper: 01, "The five steps", "Refusals by number", "Lines"; 02, 3/13.
 --
---   laid a                the layout of an answer: whether it refuses, its number, and its values, each with how many
---                         words of the report follow it. All else is read off it: both forms of an answer, in four
---                         words and as a line
+--   laid a                 the layout of an answer: whether it refuses, its number, and its values, each with how
+--                          many words of the report follow it. All else is read off it: both forms of an answer, in
+--                          four words and as a line
 --   number_of a            a refusal's number; for any other answer a number of ours, from 100 on
 --   values_of a            the counts and numbers that the answer carries, in the order of the answer line
 --   word_count a           how many words of the report are the answer's own
 --   answer_of n vs         the answer that a number and values tell
---   SameWords a a'        the four words of two answers, number and values, are the same: 0 where there is no value
+--   SameWords a a'         the four words of two answers, number and values, are the same: 0 where there is no value
 --   by_number r            the refusal by r, which tells nothing else
 --   refused_with b r       the refusal by r, where b is the task to blame
---   refused_at_with b i r   the refusal by r of the list entry at the place i, where b is the task to blame
+--   refused_at_with b i r  the refusal by r of the list entry at the place i, where b is the task to blame
 -- Assumes nothing.
 use Rattle.std.specs.Prelude.{ℕ, ◌+◌, ◌*◌, ◌-◌, ◌≡◌, List, [], ◌∷◌, ◌++◌, Bool, true, false, cond, eqb, ltb, get_or}
 use Rattle.rules.specs.declared.Part.{Part}

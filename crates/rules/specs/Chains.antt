@@ -1,12 +1,12 @@
 -- Who waits for whom, and the chain of a waiting task. Paper: 01, "Tables and words".
 --
 --   View, view_of ts ps, view s   the word of each task and of each promise: all that chains read
---   awaited_by s t, owner_of s p   the promise that t awaits; the task that owns p
---   WaitsFor T s v p u     v waits on p, which u owns
---   Graph, waits T s       ready tasks, and who waits for whom
---   Chain g t l            l is the chain of t: its links, to a ready task
---   chain_end t l           the task at the end of the chain l of t
---   Comes g t              the chain of t comes to a ready task
+--   awaited_by s t, owner_of s p  the promise that t awaits; the task that owns p
+--   WaitsFor T s v p u            v waits on p, which u owns
+--   Graph, waits T s              ready tasks, and who waits for whom
+--   Chain g t l                   l is the chain of t: its links, to a ready task
+--   chain_end t l                 the task at the end of the chain l of t
+--   Comes g t                     the chain of t comes to a ready task
 -- Assumes nothing.
 use Rattle.std.specs.Prelude.{◌≡◌, List, [], ◌∷◌, ℕ, ◌-◌, ◌<◌, length, get_or}
 use Rattle.words.specs.Words.{ready_word, first_wait, waits_on, first_owned, owned_by}

@@ -2,8 +2,8 @@
 --
 --   Apart F                        a form whose owned and blamed words do not meet
 --   Good F s                       tables whose sizes fit, and sound
---   numbers rows, paper_rows x      the numbers of the rows; those of the paper's table
---   paper_numbers x, step_numbers    all numbers that a step, and that any step, may be refused by
+--   numbers rows, paper_rows x     the numbers of the rows; those of the paper's table
+--   paper_numbers x, step_numbers  all numbers that a step, and that any step, may be refused by
 --   FirstGiven r rows              r is the number of the first row that applies
 --   NoneGiven rows                 none of the rows applies
 --   BadPlace B ps t list r i       i is the first bad place of an async list of t, and its refusal is r
@@ -13,7 +13,8 @@
 --   Stands s t p ws                the ring of the pairs ws stands: from t, which waits on p, they lead back to t
 --   Alarm, Wait, Named, Woken      what an alarm, a wait, an end, a set means
 --   Demand3 F s                    demand 3, of the tables s
---   had_waited F s t p xs           the tables, had t waited on p and the steps xs followed, without the soundness test
+--   had_waited F s t p xs          the tables, had t waited on p and the steps xs followed, without the soundness
+--                                  test
 --   Pair u q ws                    u and q are a pair of the report ws
 --   RunsInto s ws v                the chain of v runs into the ring of the pairs ws
 -- Assumes nothing.
@@ -212,4 +213,5 @@ pub data Pair (u q : ℕ) : List ℕ → Type 0 where
 -- v is a task of the ring, or waits on a promise whose owner's chain runs into it
 pub data RunsInto (s : Tables) (ws : List ℕ) : ℕ → Type 0 where
   of_the_ring : {v q : ℕ} → Pair v q ws → RunsInto s ws v
-  behind_it : {v u : ℕ} (q : ℕ) → task_at s v ≡ waits_on q → promise_at s q ≡ owned_by u → RunsInto s ws u → RunsInto s ws v
+  behind_it : {v u : ℕ} (q : ℕ) → task_at s v ≡ waits_on q → promise_at s q ≡ owned_by u → RunsInto s ws u
+      → RunsInto s ws v

@@ -2,9 +2,9 @@
 -- which it stands apart, and has a theorem of its own under its request. proofs/Cases.antt shows that the rules give
 -- each row.
 --
---   blamed_set             3/13: a blamed promise beside an owned and a set one, set and listed
---   ring_set               4/13: a ring that was entered, beside a ready task
---   taken_untested c       what the rules without the soundness test say of a row
+--   blamed_set        3/13: a blamed promise beside an owned and a set one, set and listed
+--   ring_set          4/13: a ring that was entered, beside a ready task
+--   taken_untested c  what the rules without the soundness test say of a row
 -- Assumes nothing.
 use Rattle.std.specs.Prelude.{List, [], ◌∷◌}
 use Rattle.words.specs.Words.{small}

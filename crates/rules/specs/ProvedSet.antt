@@ -2,10 +2,10 @@
 -- four cases marked *. The third of these has two sides and so two rows. proofs/Cases.antt shows that the rules give
 -- each row.
 --
---   Case                  the tables before, the report's length and the step; then what is expected: the answer, the
---                         tables after, the report words
---   proved_set             the table
---   taken c, expected c   what the rules say of a row, and what the row says
+--   Case                 the tables before, the report's length and the step; then what is expected: the answer, the
+--                        tables after, the report words
+--   proved_set           the table
+--   taken c, expected c  what the rules say of a row, and what the row says
 -- Assumes nothing.
 use Rattle.std.specs.Prelude.{ℕ, List, [], ◌∷◌}
 use Rattle.words.specs.Words.{small}

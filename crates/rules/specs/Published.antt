@@ -3,10 +3,10 @@
 -- to 7. proofs/Policy.antt shows that each accepted step does what its rules say, and that a step whose rules `assert`
 -- what does not hold is refused. Rule 6 is the exception: what follows an omitted set is the paper's own (01, "end").
 --
---   Declared s p, Fulfilled s p, Owner s p t   p is in D, p is in F, owner(p) = t
---   NewRule, SetRule, SpawnRule, GetRule       what rules 1 to 5, 7 and 8 say of the tables before and after
---   EndRule                                    rule 6: nothing changes where nothing is owned
---   Asserted s x                               what the rules of the step x assert of the tables before
+--   Declared s p, Fulfilled s p, Owner s p t  p is in D, p is in F, owner(p) = t
+--   NewRule, SetRule, SpawnRule, GetRule      what rules 1 to 5, 7 and 8 say of the tables before and after
+--   EndRule                                   rule 6: nothing changes where nothing is owned
+--   Asserted s x                              what the rules of the step x assert of the tables before
 -- Assumes nothing.
 use Rattle.std.specs.Prelude.{ℕ, ◌≡◌, ◌≢◌, List}
 use Rattle.words.specs.Words.{unmade_word, set_word, owned_by}

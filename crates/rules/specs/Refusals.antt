@@ -1,17 +1,18 @@
 -- The refusals by number, in their order. Paper: 01, "Refusals by number, in this order"; 02, 3/13.
 --
---   Row, first rows        a number and whether it applies; the first that applies, 0 where none does
---   earlier a b            the first of two refusals, where 0 is none
---   bounds_rows F n s       1, of all steps; n is the report's length
---   table_rows F n s        1 and 2, of all steps
---   actor_rows ts t         3, 4 and 5, of all steps
---   child_rows ts c         11 and 12
---   new_rows ps p           6 and 7
---   get_rows ps p           6 and 8
---   own_rows B ps t p       6, 8, 9, 17 and 10
---   entry_rows B ps t l i   6, 8, 9, 17, 10 and 13, of entry i of an async list
---   first_bad f n i         of the n places from i on, the first that f refuses; i + n where f refuses none of them
---   fresh_rows F T P, fresh_refusal F T P   1, of making tables fresh: by their sizes alone
+--   Row, first rows                        a number and whether it applies; the first that applies, 0 where none does
+--   earlier a b                            the first of two refusals, where 0 is none
+--   bounds_rows F n s                      1, of all steps; n is the report's length
+--   table_rows F n s                       1 and 2, of all steps
+--   actor_rows ts t                        3, 4 and 5, of all steps
+--   child_rows ts c                        11 and 12
+--   new_rows ps p                          6 and 7
+--   get_rows ps p                          6 and 8
+--   own_rows B ps t p                      6, 8, 9, 17 and 10
+--   entry_rows B ps t l i                  6, 8, 9, 17, 10 and 13, of entry i of an async list
+--   first_bad f n i                        of the n places from i on, the first that f refuses; i + n where f refuses
+--                                          none of them
+--   fresh_rows F T P, fresh_refusal F T P  1, of making tables fresh: by their sizes alone
 -- Assumes nothing.
 use Rattle.std.specs.Prelude.{ℕ, zero, suc, List, [], ◌∷◌, ◌++◌, Bool, cond, not, eqb, leb, ltb, length, get_or}
 use Rattle.words.specs.Words.{Form, sizes_in_bounds, unused_word, unmade_word, set_word, owned_by}

@@ -1,16 +1,17 @@
 -- Sound tables: as a statement to read, and as a test that computes. Paper: 01, "Tables and words".
 -- proofs/SoundTest.antt shows that the two agree.
 --
---   TaskWord P w, PromiseWord T B w   w is a word of the task table, of the promise table
---   SoundView T P B s, Sound B s      the tables are sound
---   Hop, hop T s v                    from task v, one of T, to the owner of what it awaits
---   comes n T s v                     following owners from v comes to a ready task in fewer than n hops
---   comes_in_time s v                   the same in fewer hops than there are tasks
+--   TaskWord P w, PromiseWord T B w  w is a word of the task table, of the promise table
+--   SoundView T P B s, Sound B s     the tables are sound
+--   Hop, hop T s v                   from task v, one of T, to the owner of what it awaits
+--   comes n T s v                    following owners from v comes to a ready task in fewer than n hops
+--   comes_in_time s v                the same in fewer hops than there are tasks
 --   task_passes s v, promise_passes B s q, sound_test B s   the test
---   is_sound F s                       the test, of tables of any lengths
+--   is_sound F s                     the test, of tables of any lengths
 -- Assumes nothing.
 use Rattle.std.specs.Prelude.{◌≡◌, Bool, true, false, cond, ◌&&◌, ◌||◌, ℕ, zero, suc, ◌-◌, ◌<◌, eqb, leb, ltb, length}
-use Rattle.words.specs.Words.{unused_word, ready_word, ended_word, first_wait, waits_on, unmade_word, set_word, first_owned}
+use Rattle.words.specs.Words.{unused_word, ready_word, ended_word, first_wait, waits_on, unmade_word, set_word}
+use Rattle.words.specs.Words.{first_owned}
 use Rattle.words.specs.Words.{Form, owned_by, blamed_on}
 use Rattle.words.specs.Lists.{all_below}
 use Rattle.rules.specs.Tables.{Tables, sizes_fit, task_at, promise_at, live, Live, waiting}

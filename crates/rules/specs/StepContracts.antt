@@ -1,13 +1,13 @@
 -- What the functions promise of the tables and the report that they were lent.
 -- Paper: 01, "How much each contract must say".
 --
---   Gives o rs a s' rs'        the answer a, the tables s' and the report rs' are those of the outcome o; rs is the
---                              report before
---   Takes F x s rs a s' rs'    they are those of the step x on the tables s
+--   Gives o rs a s' rs'      the answer a, the tables s' and the report rs' are those of the outcome o; rs is the
+--                            report before
+--   Takes F x s rs a s' rs'  they are those of the step x on the tables s
 --   TakesRaw F x s rs a s' rs' the same, without refusals 1 and 2
---   TakesQuietly F x s a s'    the same, without refusals 1 and 2, for a step that writes no report: any report stays
---   freshened F s              the tables s, made fresh unless that is refused
---   Freshens F s r s'          the number r and the tables s' are those of making s fresh
+--   TakesQuietly F x s a s'  the same, without refusals 1 and 2, for a step that writes no report: any report stays
+--   freshened F s            the tables s, made fresh unless that is refused
+--   Freshens F s r s'        the number r and the tables s' are those of making s fresh
 -- Assumes nothing.
 use Rattle.std.specs.Prelude.{ℕ, ◌≡◌, List, cond, eqb, length}
 use Rattle.words.specs.Words.{Form}

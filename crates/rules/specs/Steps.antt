@@ -1,25 +1,28 @@
 -- The five steps: what each answers, the tables after it, and the report words. Paper: 01, "The five steps"; 02, 3/13
 -- and 4/13.
 --
---   Step                    a step with its numbers
---   Outcome                 the answer, the tables after it, and the words that the report then begins with
---   with_made .. with_ended   the tables after an accepted step
---   waiters_on s p           who waits on p: what a set reports
---   omitted_by s t, waiters_for s t   what t owns, and who waits on one of these: what its end reports
---   walk, Found             following owners, on behalf of a get
---   pairs k s t p           the pairs of a ring
---   rows F s x              the refusals from 3 on, of each step
---   step_refused F s x r     the answer that refuses the step by r
---   entry_refused B s t l i  the answer that refuses an async for the entry i of its list
---   effect F s x            what the step does where none of them applies
+--   Step                             a step with its numbers
+--   Outcome                          the answer, the tables after it, and the words that the report then begins with
+--   with_made .. with_ended          the tables after an accepted step
+--   waiters_on s p                   who waits on p: what a set reports
+--   omitted_by s t, waiters_for s t  what t owns, and who waits on one of these: what its end reports
+--   walk, Found                      following owners, on behalf of a get
+--   pairs k s t p                    the pairs of a ring
+--   rows F s x                       the refusals from 3 on, of each step
+--   step_refused F s x r             the answer that refuses the step by r
+--   entry_refused B s t l i          the answer that refuses an async for the entry i of its list
+--   effect F s x                     what the step does where none of them applies
 --   raw F s x, step F n s x the rules without and with refusals 1 and 2; n is the report's length
---   untested F n s x        the rules without the soundness test
---   LentStep                a step, and the length of the report that it is lent
---   ran f s xs              the tables after the steps xs, each with a report of its own length, taken by the rules f
---   run F s xs              the same by the rules
+--   untested F n s x                 the rules without the soundness test
+--   LentStep                         a step, and the length of the report that it is lent
+--   ran f s xs                       the tables after the steps xs, each with a report of its own length, taken by
+--                                    the rules f
+--   run F s xs                       the same by the rules
 -- Assumes nothing.
-use Rattle.std.specs.Prelude.{ℕ, zero, suc, ◌-◌, List, [], ◌∷◌, ◌++◌, Bool, true, false, cond, ◌&&◌, eqb, leb, ltb, length, get_or, set}
-use Rattle.words.specs.Words.{Form, ready_word, ended_word, waits_on, first_wait, set_word, owned_by, first_owned, blamed_on}
+use Rattle.std.specs.Prelude.{ℕ, zero, suc, ◌-◌, List, [], ◌∷◌, ◌++◌, Bool, true, false, cond, ◌&&◌, eqb, leb, ltb}
+use Rattle.std.specs.Prelude.{length, get_or, set}
+use Rattle.words.specs.Words.{Form, ready_word, ended_word, waits_on, first_wait, set_word, owned_by, first_owned}
+use Rattle.words.specs.Words.{blamed_on}
 use Rattle.words.specs.Lists.{is, places, replaced}
 use Rattle.rules.specs.Tables.{Tables, with_tasks, with_promises, with_words, promise_at, waiting, blamed_task}
 use Rattle.rules.specs.Chains.{View, view, awaited_by, owner_of}

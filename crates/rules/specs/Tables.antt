@@ -1,19 +1,20 @@
 -- The two tables of a session. Paper: 01, "Tables and words".
 --
---   Tables, tables ts ps      the task table and the promise table, as lists of words
+--   Tables, tables ts ps              the task table and the promise table, as lists of words
 --   with_tasks s ts, with_promises s ps, with_words s ts ps   the tables s with other words
---   part_of T P s, put_back T P s s'   the first T and P words of the tables s; these words replaced by s'
---   sizes_fit F s              the lengths of the tables are within their bounds
---   room_of s                  the words of a report that has room for every answer on the tables s
---   in_bounds F n s            the sizes fit, and a report of n words has room
+--   part_of T P s, put_back T P s s'  the first T and P words of the tables s; these words replaced by s'
+--   sizes_fit F s                     the lengths of the tables are within their bounds
+--   room_of s                         the words of a report that has room for every answer on the tables s
+--   in_bounds F n s                   the sizes fit, and a report of n words has room
 --   task_at s t, promise_at s p the word of task t, of promise p; 0 past the table's end
 --   live w, Live w, waiting w a task with the word w is ready or waits, as a test and as a statement; it waits
---   live_tasks s               how many tasks are live
---   closed B w                a promise with the word w is set or blamed
---   blamed_task B s p          the task that p is blamed on, if it is blamed
---   fresh T P                 fresh tables
+--   live_tasks s                      how many tasks are live
+--   closed B w                        a promise with the word w is set or blamed
+--   blamed_task B s p                 the task that p is blamed on, if it is blamed
+--   fresh T P                         fresh tables
 -- Assumes nothing.
-use Rattle.std.specs.Prelude.{ℕ, ◌-◌, ◌≡◌, List, ◌++◌, Bool, true, ◌&&◌, ◌||◌, eqb, leb, length, get_or, set, replicate, take, drop}
+use Rattle.std.specs.Prelude.{ℕ, ◌-◌, ◌≡◌, List, ◌++◌, Bool, true, ◌&&◌, ◌||◌, eqb, leb, length, get_or, set}
+use Rattle.std.specs.Prelude.{replicate, take, drop}
 use Rattle.words.specs.Words.{Form, sizes_in_bounds, room_for, ready_word, first_wait, set_word}
 use Rattle.words.specs.Lists.{count}
 

@@ -5,7 +5,7 @@
 // answer to a line that opens a session, all others are given by the steps. The place of a refusal is where it lies: in
 // the list of an async, or, with refusal 14, the column in a bad line. The last two cases are refusal 17, which tells
 // the blamed task.
-#[derive(Drop)]
+#[derive(Clone, Copy)]
 pub enum Answer {
     Opened,
     Made,
@@ -23,7 +23,7 @@ pub enum Answer {
 }
 
 // A value of an answer, and how many words of the report follow it; or none, of zeros.
-#[derive(Drop)]
+#[derive(Clone, Copy)]
 pub struct Part {
     pub told: bool,
     pub value: u16,
@@ -31,7 +31,7 @@ pub struct Part {
 }
 
 // The layout of an answer: whether it refuses, its number, and its values. All forms of an answer are read off it.
-#[derive(Drop)]
+#[derive(Clone, Copy)]
 pub struct Layout {
     pub refuses: bool,
     pub number: u16,

@@ -1,11 +1,12 @@
 -- What a mark says: the chain of a task that has one comes to a ready task. A walk from v marks with v + 1, and a mark
 -- of 0 is none. Paper: 02, request 8, "Mark each task once its chain is known to end well".
 --
---   chain_passes s v    v does not wait, or its chain comes to a ready task
---   Marked s ms        whoever is marked in ms has a chain that comes to a ready task
---   MarksFor s ms      ms are such marks, with a word for each task, and no number of a task is too large for one
---   Leads s low high v         a hop from v leads to a live task with a number from low on and below high
---   LeadsWithin s low high v   the same, if v waits
+--   chain_passes s v          v does not wait, or its chain comes to a ready task
+--   Marked s ms               whoever is marked in ms has a chain that comes to a ready task
+--   MarksFor s ms             ms are such marks, with a word for each task, and no number of a task is too large for
+--                             one
+--   Leads s low high v        a hop from v leads to a live task with a number from low on and below high
+--   LeadsWithin s low high v  the same, if v waits
 -- Assumes nothing.
 use Rattle.std.specs.Prelude.{ℕ, ◌≤◌, ◌<◌, ◌≡◌, ◌≢◌, List, Bool, true, not, ◌||◌, length, get_or}
 use Rattle.words.specs.Words.{first_wait}

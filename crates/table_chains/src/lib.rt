@@ -5,7 +5,7 @@
 ghost use Rattle.std.specs.Prelude.{◌≡◌, true, ◌<◌, length};
 ghost use Rattle.words.specs.Words.{small};
 ghost use Rattle.words.specs.Lists.{all_below};
-ghost use Rattle.rules.specs.Tables.{tables, sizes_fit, live as liveWord};
+ghost use Rattle.rules.specs.Tables.{tables, sizes_fit, live as live_word};
 ghost use Rattle.rules.specs.Sound.{comes_in_time};
 ghost use Rattle.table_chains.specs.Marks.{Marked, MarksFor, chain_passes, LeadsWithin};
 
@@ -86,7 +86,7 @@ fn marked_pass(tasks: &[u16], promises: &[u16]) -> bool
 }
 
 fn live(w: u16) -> bool
-    ensures { result ≡ liveWord w }
+    ensures { result ≡ live_word w }
 {
     (w == TaskWord::READY) | (TaskWord::FIRST_WAIT <= w)
 }

@@ -1,6 +1,6 @@
 -- The code's answer to a hop, as the rules have it.
 --
---   hop_read h   the hop that h stands for
+--   hop_read h  the hop that h stands for
 -- Assumes nothing.
 use Rattle.rules.specs.Sound.{Hop, ready, lost, to}
 use Rattle.table_hops.specs.declared.Next.{Next}

@@ -3,14 +3,14 @@
 
 ghost use Rattle.std.specs.Prelude.{◌≡◌, length};
 ghost use Rattle.rules.specs.Chains.{view_of};
-ghost use Rattle.rules.specs.Sound.{hop as hopOf, hop_owner};
+ghost use Rattle.rules.specs.Sound.{hop as hop_of, hop_owner};
 ghost use Rattle.table_hops.specs.Hops.{hop_read};
 
 use table_access::at;
 use words::{PromiseWord, TaskWord};
 
 // Where a hop from a task leads: it is ready, or it leads nowhere, or to the owner of what it awaits.
-#[derive(Drop)]
+#[derive(Clone, Copy)]
 pub enum Next {
     Ready,
     Lost,
@@ -33,8 +33,7 @@ fn hop_owner(count: usize, w: u16) -> Next
 
 // From task `v` to the owner of what it awaits.
 pub fn hop(tasks: &[u16], promises: &[u16], v: usize) -> Next
-    ensures { hop_read result
-        ≡ hopOf (length tasks.now) (view_of tasks.now promises.now) v }
+    ensures { hop_read result ≡ hop_of (length tasks.now) (view_of tasks.now promises.now) v }
 {
     let w = at(tasks, v);
     if w == TaskWord::READY {

@@ -74,6 +74,6 @@ module _ (B : ℕ) (s : Tables) where
     no_chains e =
         sym
         (all_below_make (length s.tasks) (chain_passes s)
-        (λ v z. let idle-at = ltb-true _ _ (all_below_at (length s.tasks) (λ i. ltb (task_at s i) first_wait) e v z) in
-        rw (lt-leb first_wait (task_at s v) idle-at)))
+        (λ v z. let idle_at = ltb-true _ _ (all_below_at (length s.tasks) (λ i. ltb (task_at s i) first_wait) e v z) in
+        rw (lt-leb first_wait (task_at s v) idle_at)))
         ∙ chains_decide

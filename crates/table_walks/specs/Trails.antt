@@ -1,6 +1,6 @@
 -- The code's answer to following owners, as the rules have it.
 --
---   found_read r   what r stands for
+--   found_read r  what r stands for
 -- Assumes nothing.
 use Rattle.rules.specs.Steps.{Found, astray, back, free}
 use Rattle.table_walks.specs.declared.Trail.{Trail}

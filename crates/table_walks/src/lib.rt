@@ -14,7 +14,7 @@ use words::{PromiseWord, TaskWord};
 
 // Where the way led, with the number of owners reached: back to the asker, or to another ready task. In damaged
 // tables it may be lost.
-#[derive(Drop)]
+#[derive(Clone, Copy)]
 pub enum Trail {
     Astray,
     Back(usize),

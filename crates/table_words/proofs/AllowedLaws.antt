@@ -22,7 +22,8 @@ use Rattle.table_words.specs.Allowed.{LargestOf, live_at, not_between, owners_up
 
 -- ---- a task's word, by ranges
 
-pub task_word_ranges : (P w : ℕ) → (leb w ended_word || (leb first_wait w && ltb w (first_wait + P))) ≡ task_word_passes P w
+pub task_word_ranges : (P w : ℕ)
+    → (leb w ended_word || (leb first_wait w && ltb w (first_wait + P))) ≡ task_word_passes P w
 unfolding task_word_passes
 task_word_ranges P w = go (ℕ_discrete w 0) (ℕ_discrete w 1) (ℕ_discrete w 2)
   where
@@ -65,7 +66,8 @@ module _ (f : ℕ → Bool) (ts : List ℕ) (from : ℕ) where
   }
 
   pub noting_turn : {before now : List Bool} {i : ℕ} {b : Bool} → Noting f ts from before now i → i < length ts
-      → from + length ts ≤ length before → b ≡ f (get_or ts i 0) → Noting f ts from before (set now (from + i) b) (i + 1)
+      → from + length ts ≤ length before → b ≡ f (get_or ts i 0)
+      → Noting f ts from before (set now (from + i) b) (i + 1)
   noting_turn {before} {now} {i} {b} r h room e = record {
     within = omega arith;
     same = length-set now (from + i) b ∙ r.same;
@@ -148,11 +150,12 @@ owner_passes B ts ps w h k l =
 pub only_owners : (ts ps : List ℕ) (most : ℕ) → LargestOf ps most → all_below (owners_up_to most) (live_at ts) ≡ true
     → owners_up_to most ≤ length ts → every_word not_between ps ≡ true → OnlyOwners ts ps
 unfolding promise_passes below live_at not_between
-only_owners ts ps most l live-so few no_gap B =
+only_owners ts ps most l live_so few no_gap B =
     all_below_make (length ps) (promise_passes B (tables ts ps)) (λ q z. passes q z (or_split _ _ (apart q z)))
   where
     apart : (q : ℕ) → q < length ps → (leb (get_or ps q 0) set_word || leb first_owned (get_or ps q 0)) ≡ true
-    apart q z = all_below_at (length ps) (λ k. leb (get_or ps k 0) set_word || leb first_owned (get_or ps k 0)) no_gap q z
+    apart q z =
+        all_below_at (length ps) (λ k. leb (get_or ps k 0) set_word || leb first_owned (get_or ps k 0)) no_gap q z
 
     small : (q : ℕ) → q < length ps → get_or ps q 0 < suc most
     small q z =
@@ -166,10 +169,10 @@ only_owners ts ps most l live-so few no_gap B =
     passes q z (inl e) = rw (first_two (get_or ps q 0) (leb-true _ _ e))
     passes q z (inr e) =
         let h = leb-true first_owned (get_or ps q 0) e in
-        let below-most = small q z in
+        let below_most = small q z in
         let named : get_or ps q 0 - first_owned < owners_up_to most = omega arith in
         owner_passes B ts ps (get_or ps q 0) h (omega (arith, named, few))
-        (all_below_at (owners_up_to most) (λ t. live (get_or ts t 0)) live-so (get_or ps q 0 - first_owned) named)
+        (all_below_at (owners_up_to most) (λ t. live (get_or ts t 0)) live_so (get_or ps q 0 - first_owned) named)
 
 -- ---- what the filled table says
 
@@ -251,7 +254,8 @@ module _ (B : ℕ) (ts : List ℕ) (apart : first_owned + length ts ≤ B) where
           let (a, b) = named_from first_owned w (and_split (names first_owned w) _ f).0 in
           omega (arith, a, b, apart, room)
 
-      go : (((eqb w unmade_word || eqb w set_word) || (names first_owned w && live (get_or ts (w - first_owned) 0))) ≡ true)
+      go : (((eqb w unmade_word || eqb w set_word) || (names first_owned w && live (get_or ts (w - first_owned) 0)))
+          ≡ true)
           ⊎ ((names B w && eqb (get_or ts (w - B) 0) ended_word) ≡ true) → w < n
       go (inl f) = lower (or_split _ _ f)
       go (inr f) =
@@ -292,6 +296,7 @@ fills B ts may owned all m o e =
     (subst (λ (k : List Bool). Noted live ts first_owned (opened k) owned) m.empty o) e
 
 -- each word that is looked up stands within the table
-pub every_word_below_at : (n : ℕ) (ps : List ℕ) (q : ℕ) → every_word (below n) ps ≡ true → q < length ps → get_or ps q 0 < n
+pub every_word_below_at : (n : ℕ) (ps : List ℕ) (q : ℕ) → every_word (below n) ps ≡ true → q < length ps
+    → get_or ps q 0 < n
 unfolding below
 every_word_below_at n ps q e h = ltb-true _ _ (all_below_at (length ps) (λ i. ltb (get_or ps i 0) n) e q h)

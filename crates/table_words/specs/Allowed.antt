@@ -1,24 +1,25 @@
 -- The words of the two tables, each by itself. Paper: 01, "Tables and words", "every word is one of these, with p below
 -- P and t below T; every owner is live; .. every blamed task is ended".
 --
---   every_word f ws          every word of ws passes f
---   task_word_passes P w      w is a word of the task table, where there are P promises
---   idle w                  a task with the word w does not wait
---   below n w               w is below n
---   LargestOf ws r          every word of ws is below n exactly where r is, for n above 0
---   live_at ts t             task t is live, where ts are the tasks
---   not_between w            w is unmade, set, or not below the first owner
---   owners_up_to w            how many tasks there are up to the owner w, if it is one
---   OnlyOwners ts ps        every word of ps is unmade, set, or a live owner of ts
---   allowed may w           the look-up table may says that w may stand in the promise table; no word past its end may
---   noted f ts from b w     what a table that says b of w says of it once it has noted, from the word `from` on, of
---                           each task of ts whether its word passes f
---   Noted f ts from b a     the table b has become a by noting that
---   MayHold B T may         may has room for the words of promises, where B is the first blamed word and there are T
---                           tasks, and no word may stand there yet
---   Fills B ts may          may says of every word whether it may stand in the promise table, where ts are the tasks
+--   every_word f ws       every word of ws passes f
+--   task_word_passes P w  w is a word of the task table, where there are P promises
+--   idle w                a task with the word w does not wait
+--   below n w             w is below n
+--   LargestOf ws r        every word of ws is below n exactly where r is, for n above 0
+--   live_at ts t          task t is live, where ts are the tasks
+--   not_between w         w is unmade, set, or not below the first owner
+--   owners_up_to w        how many tasks there are up to the owner w, if it is one
+--   OnlyOwners ts ps      every word of ps is unmade, set, or a live owner of ts
+--   allowed may w         the look-up table may says that w may stand in the promise table; no word past its end may
+--   noted f ts from b w   what a table that says b of w says of it once it has noted, from the word `from` on, of
+--                         each task of ts whether its word passes f
+--   Noted f ts from b a   the table b has become a by noting that
+--   MayHold B T may       may has room for the words of promises, where B is the first blamed word and there are T
+--                         tasks, and no word may stand there yet
+--   Fills B ts may        may says of every word whether it may stand in the promise table, where ts are the tasks
 -- Assumes nothing.
-use Rattle.std.specs.Prelude.{ℕ, suc, ◌+◌, ◌-◌, ◌≤◌, ◌<◌, ◌≡◌, List, [], Bool, true, false, cond, ◌&&◌, ◌||◌, eqb, leb, ltb, length, get_or, replicate}
+use Rattle.std.specs.Prelude.{ℕ, suc, ◌+◌, ◌-◌, ◌≤◌, ◌<◌, ◌≡◌, List, [], Bool, true, false, cond, ◌&&◌, ◌||◌}
+use Rattle.std.specs.Prelude.{eqb, leb, ltb, length, get_or, replicate}
 use Rattle.words.specs.Words.{unused_word, ready_word, ended_word, first_wait, set_word, first_owned}
 use Rattle.words.specs.Lists.{all_below}
 use Rattle.rules.specs.Tables.{tables, live, waiting}

@@ -212,7 +212,8 @@ is_in (y ∷ ys) x = eqb x y || is_in ys x
 pub is_in_true : (ys : List ℕ) (x : ℕ) → is_in ys x ≡ true → In x ys
 is_in_true [] x e = true_is_not_false (sym e)
 is_in_true (y ∷ ys) x e =
-    ⊎_elim (λ (h : eqb x y ≡ true). subst (λ (z : ℕ). In x (z ∷ ys)) (eqb-true x y h) top) (λ h. pop (is_in_true ys x h))
+    ⊎_elim (λ (h : eqb x y ≡ true). subst (λ (z : ℕ). In x (z ∷ ys)) (eqb-true x y h) top)
+    (λ h. pop (is_in_true ys x h))
     (or_split (eqb x y) (is_in ys x) e)
 
 -- ---- the places are exactly those of the words that pass, rising

@@ -1,15 +1,16 @@
 -- Lists of words: what every rule above says of a table or a report.
 --
---   all_below n f         every number below n passes f
---   is v w               w is the word v
---   places f i ws        the places of the words that pass f, counted from i, rising
---   changed f x w        w, or x where w passes f
---   replaced f x ws      ws with each word that passes f made x
---   count f ws           how many words pass f
---   over xs ws           ws with its first words written over by xs
---   In x xs, Rising xs   x is one of xs; each of xs is less than the next
+--   all_below n f       every number below n passes f
+--   is v w              w is the word v
+--   places f i ws       the places of the words that pass f, counted from i, rising
+--   changed f x w       w, or x where w passes f
+--   replaced f x ws     ws with each word that passes f made x
+--   count f ws          how many words pass f
+--   over xs ws          ws with its first words written over by xs
+--   In x xs, Rising xs  x is one of xs; each of xs is less than the next
 -- Assumes nothing.
-use Rattle.std.specs.Prelude.{ℕ, zero, suc, ◌+◌, ◌<◌, List, [], ◌∷◌, ◌++◌, map, Bool, true, cond, ◌&&◌, eqb, length, drop}
+use Rattle.std.specs.Prelude.{ℕ, zero, suc, ◌+◌, ◌<◌, List, [], ◌∷◌, ◌++◌, map, Bool, true, cond, ◌&&◌, eqb, length}
+use Rattle.std.specs.Prelude.{drop}
 
 unfoldable pub all_below : ℕ → (ℕ → Bool) → Bool
 all_below zero f = true

@@ -1,14 +1,15 @@
 -- The words of the two tables, and the bounds of a session. Paper: 01, "Tables and words".
 --
---   unused_word, ready_word, ended_word, waits_on p    the words of the task table
---   unmade_word, set_word, owned_by t, blamed_on B t   the words of the promise table; B is where the blamed words begin
---   first_wait, first_owned                          the word that waits on promise 0, the word owned by task 0
---   Form, small                                    where the blamed words begin, and the limits of a session
---   sizes_in_bounds F T P                            T and P are within their bounds
---   room_for T P                                    the words of a report that has room for every answer
---   most_records                                    the most steps of a batch
---   last_line                                       the largest number of a line
---   of_lines                                        the form that lines use
+--   unused_word, ready_word, ended_word, waits_on p   the words of the task table
+--   unmade_word, set_word, owned_by t,
+--   blamed_on B t            the words of the promise table; B is where the blamed words begin
+--   first_wait, first_owned  the word that waits on promise 0, the word owned by task 0
+--   Form, small              where the blamed words begin, and the limits of a session
+--   sizes_in_bounds F T P    T and P are within their bounds
+--   room_for T P             the words of a report that has room for every answer
+--   most_records             the most steps of a batch
+--   last_line                the largest number of a line
+--   of_lines                 the form that lines use
 --   longest_line, longest_answer, line_report, most_entries   its limits
 -- Assumes nothing.
 use Rattle.std.specs.Prelude.{ℕ, ◌+◌, ◌*◌, ◌/◌, Bool, ◌&&◌, leb}

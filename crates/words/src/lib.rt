@@ -7,7 +7,7 @@ ghost use Rattle.words.specs.Words.{unused_word, ready_word, ended_word, waits_o
 ghost use Rattle.words.specs.Words.{blamed_on, small, sizes_in_bounds, room_for};
 
 // A word of the task table.
-#[derive(Drop)]
+#[derive(Clone, Copy)]
 pub struct TaskWord {
     pub word: u16,
 }
@@ -49,7 +49,7 @@ impl TaskWord {
 }
 
 // A word of the promise table.
-#[derive(Drop)]
+#[derive(Clone, Copy)]
 pub struct PromiseWord {
     pub word: u16,
 }
@@ -91,7 +91,7 @@ impl PromiseWord {
 }
 
 // The limits of a session and of its lines.
-#[derive(Drop)]
+#[derive(Clone, Copy)]
 pub struct Limit {
     pub most: usize,
 }

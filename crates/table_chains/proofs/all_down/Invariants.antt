@@ -1,0 +1,13 @@
+-- `table_chains::all_down` meets its contract. The loop keeps: the links of the tasks so far lead down. Assumes
+-- nothing.
+use Prim.Native.Nat.{ℕ, ◌-◌, ◌<◌}
+use lib.ListN.{length}
+use Rattle.rules.specs.Tables.{tables}
+use Rattle.table_chains.specs.Marks.{LeadsWithin}
+use Rattle.table_chains.proofs.all_down.Given as goal
+
+abbrev pub invariant-loop-v : goal.invariant-loop-v
+invariant-loop-v l = (u : ℕ) → u < l.v → LeadsWithin (tables l.tasks l.promises) 0 u u
+
+abbrev pub decreases-loop-v : goal.decreases-loop-v
+decreases-loop-v l = length l.tasks - l.v
