@@ -4,13 +4,14 @@
 
 ghost use Rattle.std.specs.Prelude.{◌≡◌};
 ghost use Rattle.words.specs.Words.{small};
-ghost use Rattle.rules.specs.Refusals.{earlier as earlierOf, first, actor_rows, child_rows, new_rows, get_rows, own_rows};
+ghost use Rattle.rules.specs.Refusals.{earlier as earlier_of, first, actor_rows, child_rows, new_rows, get_rows};
+ghost use Rattle.rules.specs.Refusals.{own_rows};
 
 use words::{PromiseWord, TaskWord};
 
 // The first of two refusals, where 0 is none.
 pub fn earlier(a: u16, b: u16) -> u16
-    ensures { result ≡ earlierOf a b }
+    ensures { result ≡ earlier_of a b }
 {
     if a == 0 {
         return b;

@@ -1,8 +1,8 @@
 -- The kinds of steps, and what each takes. Paper: 01, "Lines", "`new t p`, `set t p`, `get t p`, `async t c p..`,
 -- `end t`".
 --
---   shape_of k      one number, two, or two and a list
---   takes_list h    whether a list belongs to it
+--   shape_of k    one number, two, or two and a list
+--   takes_list h  whether a list belongs to it
 -- Assumes nothing.
 use Rattle.std.specs.Prelude.{Bool, true, false}
 use Rattle.step_kinds.specs.declared.Kind.{Kind}

@@ -5,7 +5,7 @@ ghost use Rattle.std.specs.Prelude.{◌≡◌};
 ghost use Rattle.step_kinds.specs.Kinds.{shape_of, takes_list};
 
 // The five steps.
-#[derive(Drop)]
+#[derive(Clone, Copy)]
 pub enum Kind {
     New,
     Set,
@@ -15,7 +15,7 @@ pub enum Kind {
 }
 
 // What stands behind the word of a step: one number, two, or two and a list.
-#[derive(Drop)]
+#[derive(Clone, Copy)]
 pub enum Shape {
     One,
     Two,

@@ -1,7 +1,7 @@
 -- The step that a kind and its numbers name.
 --
---   step_by k t p l    the step of the kind k with the numbers t and p and the list l; what the kind does not take is
---                     ignored
+--   step_by k t p l  the step of the kind k with the numbers t and p and the list l; what the kind does not take is
+--                    ignored
 -- Assumes nothing.
 use Rattle.std.specs.Prelude.{ℕ, List}
 use Rattle.step_kinds.specs.declared.Kind.{Kind}

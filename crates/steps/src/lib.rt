@@ -4,7 +4,7 @@
 ghost use Rattle.std.specs.Prelude.{◌≡◌, true, length};
 ghost use Rattle.words.specs.Words.{small};
 ghost use Rattle.rules.specs.Tables.{tables as tables_of, in_bounds};
-ghost use Rattle.rules.specs.Steps.{step_new, step-set, step_get, step_async, step_end};
+ghost use Rattle.rules.specs.Steps.{step_new, step_set, step_get, step_async, step_end};
 ghost use Rattle.rules.specs.StepContracts.{Takes, TakesRaw};
 ghost use Rattle.steps.specs.Named.{step_by};
 
@@ -84,7 +84,7 @@ pub fn step_set(
     t: u16,
     p: u16,
 ) -> Answer
-    ensures { Takes small (step-set t p) (tables_of tasks.old promises.old)
+    ensures { Takes small (step_set t p) (tables_of tasks.old promises.old)
         report.old result (tables_of tasks.new promises.new) report.new }
 {
     step(tasks, promises, report, Kind::Set, t, p, &[])

@@ -1,0 +1,53 @@
+-- `step_set::raw_set` meets its contract: the bounds give the promise a word and the report its room, and each loop
+-- and store is the part of the outcome that has its name. Assumes nothing.
+use mathlib.Core.List.{[]}
+use Prim.Native.Nat.{◌≤◌}
+use mathlib.Core.Path.{sym, ap, ap₂, ◌∙◌}
+use lib.ListN.{length}
+use Rattle.words.specs.Words.{small}
+use Rattle.words.specs.Lists.{is, places}
+use Rattle.words.proofs.ListLaws.{over_sets, places_length}
+use Rattle.rules.specs.Tables.{tables, with_words}
+use Rattle.rules.specs.Refusals.{own_rows}
+use Rattle.rules.specs.declared.Answer.TheVariants.{Set}
+use Rattle.rules.proofs.BoundsLaws.{in_bounds_true}
+use Rattle.rules.proofs.RefusalLaws.{actor_rows_none, own_rows_none}
+use Rattle.rules.proofs.GivesLaws.{gives_refused, gives_passed}
+use native.Mathlib.Omega.{arith}
+use Rattle.step_set.proofs.raw_set.Goals as goal
+
+pub returns-then-r-ne0 : goal.returns-then-r-ne0
+returns-then-r-ne0 c =
+    rw c.refused.ensures (gives_refused _ _ _ _ c.refusal-r.ensures c.if-r-ne0.true)
+
+pub waits_on-w-requires : goal.waits_on-w-requires
+waits_on-w-requires c =
+    let a = c.args in
+    let b = in_bounds_true small _ _ c.requires in
+    let own = own_rows small.base a.promises.now a.t a.p in
+    let f = actor_rows_none a.tasks.now a.t own (sym c.refusal-r.ensures ∙ c.if-r-ne0.false) in
+    omega (arith, b.promises, (own_rows_none small.base a.promises.now a.t a.p [] f.1).0)
+
+pub collect_word-n-requires : goal.collect_word-n-requires
+collect_word-n-requires c =
+    let b = in_bounds_true small _ _ c.requires in
+    (omega (arith, b.room), omega (arith, b.tasks))
+
+pub overflow_cast-woken : goal.overflow_cast-woken
+overflow_cast-woken c =
+    let l = places_length (is c.waits_on-w.result) 0 c.args.tasks.now in
+    omega (arith, (in_bounds_true small _ _ c.requires).tasks, c.collect_word-n.ensures.0, l)
+
+pub returns : goal.returns
+returns c =
+    let a = c.args in
+    let woken = places (is c.waits_on-w.result) 0 a.tasks.now in
+    let l = places_length (is c.waits_on-w.result) 0 a.tasks.now in
+    let room : length woken ≤ length a.report.now = omega (arith, (in_bounds_true small _ _ c.requires).room, l) in
+    gives_passed _ _ c.refusal-r.ensures c.if-r-ne0.false
+    (rw (← c.waits_on-w.ensures)
+    (record {
+      answer = ap Set (omega (arith, c.collect_word-n.ensures.0));
+      after = ap₂ (with_words (tables c.args.tasks.now c.args.promises.now)) c.replace_word.ensures c.put.ensures;
+      report = c.collect_word-n.ensures.1 ∙ sym (over_sets woken a.report.now room);
+    }))
