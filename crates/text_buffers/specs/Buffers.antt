@@ -1,10 +1,10 @@
 -- What a writer leaves in a buffer that it was lent. Paper: 01, "Lines", "bytes after its LF stay", and "The five
 -- steps", "The report is written from its start; words after those named stay as they were".
 --
---   fitting t o            as much of the text t as the buffer o has room for
---   Wrote t o x r          the text t was written at the front of o: x is what o holds then, and r how many bytes
---                          were written
---   Added t o at x r       the text t was written into o from the place `at` on; r is the place after it
+--   fitting t o       as much of the text t as the buffer o has room for
+--   Wrote t o x r     the text t was written at the front of o: x is what o holds then, and r how many bytes were
+--                     written
+--   Added t o at x r  the text t was written into o from the place `at` on; r is the place after it
 -- Assumes nothing.
 use Rattle.std.specs.Prelude.{ℕ, ◌+◌, List, ◌++◌, ◌≡◌, length, take, drop}
 use Rattle.words.specs.Lists.{over}

@@ -88,7 +88,8 @@ first_field_front f x h z =
     let e : run_to_tab (f ++ x) ≡ length f = omega (arith, run_to_tab_append f x h) in
     ap (λ (n : ℕ). take n (f ++ x)) e ∙ take-append_seam f x
 
-pub first_field_rest : (f x : List ℕ) → run_to_tab f ≡ length f → run_to_tab x ≡ 0 → drop (run_to_tab (f ++ x)) (f ++ x) ≡ x
+pub first_field_rest : (f x : List ℕ) → run_to_tab f ≡ length f → run_to_tab x ≡ 0
+    → drop (run_to_tab (f ++ x)) (f ++ x) ≡ x
 first_field_rest f x h z =
     let e : run_to_tab (f ++ x) ≡ length f = omega (arith, run_to_tab_append f x h) in
     ap (λ (n : ℕ). drop n (f ++ x)) e ∙ drop-append_seam f x

@@ -50,7 +50,8 @@ field_one {s} {at} {f} {e} h p =
     let q : drop at s ≡ f ++ drop e s = ap (λ (r : List ℕ). drop at r) p.whole
     ∙ drop_at (take at s) (f ++ drop e s) at (length-take-le at s h) in
     let z = no_run p.after in
-    let k : run_to_tab (drop at s) ≡ length f = ap run_to_tab q ∙ run_to_tab_append f (drop e s) p.no_tab ∙ omega arith in
+    let k : run_to_tab (drop at s) ≡ length f =
+    ap run_to_tab q ∙ run_to_tab_append f (drop e s) p.no_tab ∙ omega arith in
     (sym (rw (k, q, take-append_seam)), p.place ∙ ap (λ (n : ℕ). at + n) (sym k))
 
 -- so the part that is handed back for a place of the line stands there, between two tabs

@@ -1,15 +1,15 @@
 -- The fields of a line. Paper: 01, "Lines", "fields parted by a tab", and "The reader works over the one lent line
 -- and keeps where the next field starts; each field is handed back as that part of the line".
 --
---   tab                the byte between two fields
+--   tab                 the byte between two fields
 --   run_to stop s       how many bytes of s stand before its first byte `stop`, or in all; `run_to_tab s` for the tab
 --   end_from stop s at  where the bytes from `at` on come to that byte, or to the line's end
 --   field_end s at      where the field that starts at `at` ends
 --   field_at s at       that field, a part of s
 --   next_start s at     where the field after it starts; length s + 1 where there is none
---   Field s at f e     f is the part of s from `at` to e, between two tabs: what it means to be the field at `at`
+--   Field s at f e      f is the part of s from `at` to e, between two tabs: what it means to be the field at `at`
 --   part_start s at     where in s the part that is handed back for `at` starts
---   FieldOf line at f  the reference f is that part of the lent line: its bytes, and where they stand
+--   FieldOf line at f   the reference f is that part of the lent line: its bytes, and where they stand
 -- Assumes nothing.
 use Rattle.std.specs.Prelude.{ℕ, suc, ◌+◌, List, [], ◌∷◌, ◌++◌, cond, ◌⊎◌, ◌≡◌, length, take, drop, eqb, ltb}
 use Rattle.std.specs.Borrow.{Bor}

@@ -20,7 +20,8 @@ use Rattle.step_kinds.specs.declared.Shape.TheVariants as H
 use Rattle.text_keywords.specs.Keywords.{keyword_of}
 use Rattle.text_keywords.specs.declared.Keyword.{Keyword}
 use Rattle.text_keywords.specs.declared.Keyword.TheVariants as W
-use Rattle.text_records.specs.Records.{end_before, number_at, with_second, with_first, pair_at, last_pair, of_pair, of_list}
+use Rattle.text_records.specs.Records.{end_before, number_at, with_second, with_first, pair_at, last_pair}
+use Rattle.text_records.specs.Records.{of_pair, of_list}
 use Rattle.text_records.specs.Records.{of_one, after_kind, after_word, record_of}
 use Rattle.text_records.proofs.RecordLaws.{number_at_next}
 use Rattle.text_records.specs.declared.Numbered.{Numbered}

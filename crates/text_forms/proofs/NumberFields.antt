@@ -10,7 +10,7 @@ use native.Mathlib.Omega.{arith}
 use lib.Dec.{eqb, leb, ltb}
 use borrow.Author.Tests.{ne_eqb, ltb-true, eqb-true}
 use lib.ListN.{length, take, drop}
-use Rattle.text_fields.specs.Fields.{tab, run_to_tab, run_to}
+use Rattle.text_fields.specs.Fields.{run_to_tab, run_to}
 use Rattle.text_fields.proofs.FieldLaws.{first_field, first_field_front, first_field_rest}
 use Rattle.text_numbers.specs.Numbers.{largest, digit_of, digits_from, after_zero, number_in, dec}
 use Rattle.text_numbers.specs.declared.Num.TheVariants.{Is, Bad}
@@ -33,7 +33,8 @@ digits_from_whole (b ∷ s) v k n e =
   where
     go : (x : Bool) → ltb (digit_of b) 10 ≡ x → (y : Bool) → leb (v * 10 + digit_of b) largest ≡ y
         → digits_from v k (b ∷ s) ≡ Is n
-        → (digits_from (v * 10 + digit_of b) (k + 1) s ≡ Is n → run_to_tab s ≡ length s) → run_to_tab (b ∷ s) ≡ suc (length s)
+        → (digits_from (v * 10 + digit_of b) (k + 1) s ≡ Is n → run_to_tab s ≡ length s)
+        → run_to_tab (b ∷ s) ≡ suc (length s)
     go false p y q e ih = never (sym (rw p at e))
     go true p false q e ih = never (sym (rw (p, q) at e))
     go true p true q e ih = rw (ne_eqb b 9 (digit_no_tab b (ltb-true _ _ p))) (ap suc (ih (rw (p, q) at e)))
@@ -128,7 +129,8 @@ digits_from_stable (b ∷ r) v k i x e =
         → digits_from (v * 10 + digit_of b) (k + 1) (first_field (take (suc i') r ++ x)) ≡ Bad (k + 1 + i'))
         → digits_from v k (first_field (b ∷ (take i r ++ x))) ≡ Bad (k + i)
     tab true t i e ih = never (rw t at e)
-    tab false t i e ih = rw t (on t (ltb (digit_of b) 10) refl (leb (v * 10 + digit_of b) largest) refl i (rw t at e) ih)
+    tab false t i e ih =
+        rw t (on t (ltb (digit_of b) 10) refl (leb (v * 10 + digit_of b) largest) refl i (rw t at e) ih)
 
 pub number_in_stable : (r : List ℕ) (j : ℕ) (x : List ℕ) → number_in (first_field r) ≡ Bad j → j < length r
     → number_in (first_field (take (suc j) r ++ x)) ≡ Bad j
@@ -175,7 +177,8 @@ zero_start = record { number = 0; most = omega arith; more = dec 0; text = refl 
 
 is_start : (f : List ℕ) (n : ℕ) → number_in f ≡ Is n → Start f
 is_start f n e =
-    record { number = n; most = (number_in_printed f n e).0; more = []; text = append-nil f ∙ (number_in_printed f n e).1 }
+    let p = number_in_printed f n e in
+    record { number = n; most = p.0; more = []; text = append-nil f ∙ p.1 }
 
 pub number_in_bad_start : (f : List ℕ) (j : ℕ) → number_in f ≡ Bad j → Start (take j f)
 unfolding number_in after_zero

@@ -24,7 +24,8 @@ use Rattle.text_records.specs.declared.Numbered.{Numbered}
 use Rattle.text_records.specs.declared.Numbered.TheVariants as S
 use Rattle.text_forms.specs.Forms.{BadAt}
 use Rattle.text_forms.proofs.Parsed.{Numbers}
-use Rattle.text_fields.proofs.FieldLaws.{first_field, run_to_tab_most, run_to_tab_tab, run_to_tab_after_field, run_to_tab_none}
+use Rattle.text_fields.proofs.FieldLaws.{first_field, run_to_tab_most, run_to_tab_tab, run_to_tab_after_field}
+use Rattle.text_fields.proofs.FieldLaws.{run_to_tab_none}
 use Rattle.text_fields.proofs.FieldLaws.{first_field_front, next_start_is}
 use Rattle.text_forms.proofs.NumberFields.{dec_whole, dec_split, number_in_stable, Start, number_in_bad_start}
 

@@ -22,7 +22,8 @@ use Rattle.text_keywords.specs.Keywords.{text_of, keyword_of}
 use Rattle.text_keywords.specs.declared.Keyword.{Keyword}
 use Rattle.text_keywords.specs.declared.Keyword.TheVariants as W
 use Rattle.text_keywords.proofs.Theorems.{keyword_of_text}
-use Rattle.text_records.specs.Records.{end_before, placed, number_at, with_second, with_first, pair_at, last_pair, of_pair}
+use Rattle.text_records.specs.Records.{end_before, placed, number_at, with_second, with_first, pair_at, last_pair}
+use Rattle.text_records.specs.Records.{of_pair}
 use Rattle.text_records.specs.Records.{of_list, of_one, after_kind, after_word, record_of}
 use Rattle.text_records.specs.declared.Numbered.TheVariants as S
 use Rattle.text_records.specs.declared.NumberPair.TheVariants as P

@@ -183,7 +183,8 @@ record_count s (R.Bad c) g = absurd (g c refl)
 pub form_counts : (s : List ℕ) → IsForm (line_form s) → entry_count (line_form s) ≡ length (entries_of s)
 form_counts s g =
     let h = within_of s g in
-    rw (line_form_within s h, entries_of_within s h) (record_count s (record_of s) (λ c e. g c (line_form_within s h ∙ e)))
+    rw (line_form_within s h, entries_of_within s h)
+    (record_count s (record_of s) (λ c e. g c (line_form_within s h ∙ e)))
 
 record_entries : (s : List ℕ) (r : LineRecord) → 2 * length (entries_in s r) ≤ length s
 unfolding entries_in
@@ -206,7 +207,8 @@ pub judged_fits : {s o x : List ℕ} {r : LineForm} → Judged s o x r → lengt
 judged_fits {s} {o} j h = j.words ∙ ap (λ (t : List ℕ). over t o) (fitting_room (entries_of s) o h)
 
 -- NOTHING IS CUT: 1,024 lent words hold the list of any line
-pub judged_whole : {s o x : List ℕ} {r : LineForm} → Judged s o x r → most_entries ≤ length o → x ≡ over (entries_of s) o
+pub judged_whole : {s o x : List ℕ} {r : LineForm} → Judged s o x r → most_entries ≤ length o
+    → x ≡ over (entries_of s) o
 judged_whole {s} {o} j h = judged_fits j (omega (arith, entries_half s))
 
 fields_least : (ns : List ℕ) → AllSmall ns → 2 * length ns ≤ length (fields_text ns)

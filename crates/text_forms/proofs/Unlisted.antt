@@ -18,7 +18,8 @@ use Rattle.text_keywords.specs.Keywords.{text_of, keyword_of}
 use Rattle.text_keywords.specs.declared.Keyword.{Keyword}
 use Rattle.text_keywords.specs.declared.Keyword.TheVariants as W
 use Rattle.text_keywords.proofs.Theorems.{keyword_of_is, step_on}
-use Rattle.text_records.specs.Records.{number_at, pair_at, last_pair, of_pair, of_one, after_kind, after_word, record_of}
+use Rattle.text_records.specs.Records.{number_at, pair_at, last_pair, of_pair, of_one, after_kind}
+use Rattle.text_records.specs.Records.{after_word, record_of}
 use Rattle.text_records.specs.declared.Numbered.{Numbered}
 use Rattle.text_records.specs.declared.Numbered.TheVariants as S
 use Rattle.text_records.specs.declared.NumberPair.{NumberPair}
@@ -63,7 +64,8 @@ take_first zero s b t e = let z : 0 ≡ suc (length t) = ap length e in absurd (
 take_first (suc k) [] b t e = let z : 0 ≡ suc (length t) = ap length e in absurd (omega arith)
 take_first (suc k) (a ∷ s) b t e = cc
 
-async_first : (s : List ℕ) → keyword_of (field_at s 0) ≡ W.Step Async → get_or s 0 0 ≡ get_or (text_of (W.Step Async)) 0 0
+async_first : (s : List ℕ) → keyword_of (field_at s 0) ≡ W.Step Async
+    → get_or s 0 0 ≡ get_or (text_of (W.Step Async)) 0 0
 unfolding field_at text_of
 async_first s e = take_first (run_to_tab s) s _ _ (keyword_of_is (field_at s 0) (W.Step Async) (step_on Async) e)
 

@@ -1,8 +1,8 @@
 -- Bad lines and their columns. Paper: 02, request 1. `text_of` and `fields_text` print the good part of a line; what
 -- follows spoils it. proofs/Columns.antt computes every row.
 --
---   Bad                a bad line and its column
---   bad_lines           the table
+--   Bad        a bad line and its column
+--   bad_lines  the table
 -- Assumes nothing.
 use Rattle.std.specs.Prelude.{ℕ, List, [], ◌∷◌, ◌++◌}
 use Rattle.text_fields.specs.Fields.{tab}

@@ -2,14 +2,13 @@
 -- it is read. Paper: 01, "Lines", "`open T P`, `new t p`, `set t p`, `get t p`, `async t c p..`, `end t`, with a tab
 -- for each blank"; the column is that of 02, request 1.
 --
---   takes w n          whether the word w takes n numbers
---   AllSmall ns        each number of ns is at most 65535
---   Line w ns s        s is the line of the word w and the numbers ns
---   Formed s           s is a well-formed line, its length limit aside
---   Start L s          s is the start of some line of L, for any language L of lines; NoStart L s: it is the start of
---                      none
---   BadAt L s c        c is the column where s stops being the start of a line of L
---   ColumnOf s c       c is the column of the line s, which is bad or too long
+--   takes w n     whether the word w takes n numbers
+--   AllSmall ns   each number of ns is at most 65535
+--   Line w ns s   s is the line of the word w and the numbers ns
+--   Formed s      s is a well-formed line, its length limit aside
+--   Start L s     s is the start of some line of L, for any language L of lines; NoStart L s: it is the start of none
+--   BadAt L s c   c is the column where s stops being the start of a line of L
+--   ColumnOf s c  c is the column of the line s, which is bad or too long
 -- Assumes nothing.
 use Rattle.std.specs.Prelude.{ℕ, suc, ◌≤◌, ◌<◌, List, ◌++◌, Bool, true, false, ◌≡◌, length, take, eqb, leb}
 use Rattle.words.specs.Words.{longest_line}

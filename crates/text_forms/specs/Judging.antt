@@ -1,16 +1,16 @@
 -- The judgement of a line, as it is read. Paper: 01, "Lines", refusal 14, "the line has no such form, is empty, or is
 -- longer than 2,048 bytes", and 02, request 1, "A line that is too long gives column 2,048".
 --
---   keyword_in f        the word of the form f, and
---   numbers_in f vs     its numbers; vs are the entries of its list
---   entry_count f       how many entries it says its list has
---   line_form s         the form of the line s, or `Bad` with the column where it goes bad
---   entries_of s        the entries of the line's list
---   may_list s          the line s starts as one with a list does
---   IsForm f           the answer f is one of the forms
---   InLine f           the answer f is one of them, or its column is at most the length limit
---   Judged s o x r     the line s was judged with the words o lent for its list: x is what they hold then, and r the
---                      answer
+--   keyword_in f     the word of the form f, and
+--   numbers_in f vs  its numbers; vs are the entries of its list
+--   entry_count f    how many entries it says its list has
+--   line_form s      the form of the line s, or `Bad` with the column where it goes bad
+--   entries_of s     the entries of the line's list
+--   may_list s       the line s starts as one with a list does
+--   IsForm f         the answer f is one of the forms
+--   InLine f         the answer f is one of them, or its column is at most the length limit
+--   Judged s o x r   the line s was judged with the words o lent for its list: x is what they hold then, and r the
+--                    answer
 -- Theorems.antt: the form read is the form printed, and a bad line's column is the one of `BadAt`.
 -- Assumes nothing.
 use Rattle.std.specs.Prelude.{ℕ, ◌+◌, ◌≤◌, List, [], ◌∷◌, Bool, cond, ◌≡◌, length, drop, get_or, eqb, ltb}

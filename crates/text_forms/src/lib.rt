@@ -15,7 +15,7 @@ use words::Limit;
 // The form of a line. `Step` holds the kind, its numbers, and how many entries its list has: they stand in the lent
 // words. A step of one number has 0 for the other, and a step without a list 0 entries. `Bad` holds the column, which
 // fits a word: it is at most `Limit::LINE`.
-#[derive(Drop)]
+#[derive(Clone, Copy)]
 pub enum LineForm {
     Open(u16, u16),
     Step(Kind, u16, u16, usize),

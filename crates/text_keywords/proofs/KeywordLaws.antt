@@ -65,8 +65,8 @@ module _ (a b : List ℕ) (i : ℕ) where
 -- ---- the table
 
 -- how far a field goes along with one word more
-pub longest_more : (s : List ℕ) (w : Keyword) (ws : List Keyword) (k r m : ℕ) → m ≡ larger k r → k ≡ common s (text_of w)
-    → r ≡ longest s ws → m ≡ longest s (w ∷ ws)
+pub longest_more : (s : List ℕ) (w : Keyword) (ws : List Keyword) (k r m : ℕ) → m ≡ larger k r
+    → k ≡ common s (text_of w) → r ≡ longest s ws → m ≡ longest s (w ∷ ws)
 unfolding longest
 longest_more s w ws k r m e f g = rw (e, f, g)
 

@@ -72,7 +72,8 @@ abbrev pub Proper : List Keyword → Type 0
 Proper ws = (w : Keyword) → On w ws → (j : ℕ) → w ≡ W.Other j → ⊥
 
 put_at : (v : Keyword) (ws : List Keyword) (s : List ℕ) → same s (text_of v) ≡ false
-    → ((w : Keyword) → On w ws → same s (text_of w) ≡ false) → (w : Keyword) → On w (v ∷ ws) → same s (text_of w) ≡ false
+    → ((w : Keyword) → On w ws → same s (text_of w) ≡ false) → (w : Keyword) → On w (v ∷ ws)
+    → same s (text_of w) ≡ false
 put_at v ws s p f w here = p
 put_at v ws s p f w (later i) = f w i
 

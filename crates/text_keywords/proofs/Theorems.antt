@@ -103,7 +103,8 @@ keyword_of_other s k e =
     most (inl z) = omega arith
     most (inr (w, i, z)) = omega (arith, common_most s (text_of w))
 
-    begin : Found → (w : Keyword) × On w keywords × (take (longest s keywords) s ≡ take (longest s keywords) (text_of w))
+    begin : Found
+        → (w : Keyword) × On w keywords × (take (longest s keywords) s ≡ take (longest s keywords) (text_of w))
     begin (inl z) = (W.Open, open_on, rw z)
     begin (inr (w, i, z)) = (w, i, rw (← z) (common_take s (text_of w)))
 

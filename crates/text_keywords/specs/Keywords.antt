@@ -2,14 +2,14 @@
 -- `end t`"; the place of a bad byte follows 02, request 1, "the first byte with which the line so far stops being the
 -- start of any".
 --
---   text_of w           the bytes of the word w
---   keywords           the six words: the table that a field is looked up in
---   same s t           whether two lists of bytes are the same
---   common s t         how many bytes two lists begin with alike
---   longest s ws       how far s goes along with some word of the table ws
---   On w ws            the word w stands in the table ws
---   keyword_of s        the word that the field s is, or `Other k` with the place of its first bad byte
---   StopsAt s k        what that place is: k bytes of s begin some word, and no more do
+--   text_of w     the bytes of the word w
+--   keywords      the six words: the table that a field is looked up in
+--   same s t      whether two lists of bytes are the same
+--   common s t    how many bytes two lists begin with alike
+--   longest s ws  how far s goes along with some word of the table ws
+--   On w ws       the word w stands in the table ws
+--   keyword_of s  the word that the field s is, or `Other k` with the place of its first bad byte
+--   StopsAt s k   what that place is: k bytes of s begin some word, and no more do
 -- Assumes nothing.
 use Rattle.std.specs.Prelude.{ℕ, suc, ◌≤◌, ◌<◌, List, [], ◌∷◌, Bool, true, false, cond, ◌≡◌, eqb, ltb, length, take}
 use Rattle.text_keywords.specs.declared.Keyword.{Keyword}

@@ -2,13 +2,13 @@
 #![tactic(auto)]
 
 ghost use Rattle.std.specs.Prelude.{◌≡◌};
-ghost use Rattle.text_keywords.specs.Keywords.{keyword_of, larger, longest, keywords, common as commonOf};
-ghost use Rattle.text_keywords.specs.Keywords.{same as sameOf};
+ghost use Rattle.text_keywords.specs.Keywords.{keyword_of, larger, longest, keywords, common as common_of};
+ghost use Rattle.text_keywords.specs.Keywords.{same as same_of};
 
 use step_kinds::Kind;
 
 // The words: `open`, and that of each kind of step; or none of them, and then how many bytes of the field begin one.
-#[derive(Drop)]
+#[derive(Clone, Copy)]
 pub enum Keyword {
     Open,
     Step(Kind),
@@ -17,7 +17,7 @@ pub enum Keyword {
 
 // Whether two byte strings are the same.
 fn same(a: &[u8], b: &[u8]) -> bool
-    ensures { result ≡ sameOf a.now b.now }
+    ensures { result ≡ same_of a.now b.now }
 {
     if a.len() != b.len() {
         return false;
@@ -34,7 +34,7 @@ fn same(a: &[u8], b: &[u8]) -> bool
 
 // How many bytes two byte strings begin with alike.
 fn common(a: &[u8], b: &[u8]) -> usize
-    ensures { result ≡ commonOf a.now b.now }
+    ensures { result ≡ common_of a.now b.now }
 {
     let mut i = 0;
     while i < a.len() {

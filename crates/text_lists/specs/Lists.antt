@@ -2,9 +2,9 @@
 -- after the child", and "The five steps", "The list may have no entries". s is that rest: empty, or a tab and a field
 -- for each entry.
 --
---   list_entries s      the entries, up to the first bad one
---   list_of s           `All n` with how many they are, or `Bad c` with the column, in s, of the first bad byte
---   Listing s o x r    the list s was read into the lent words o: x is what they hold then, and r the answer
+--   list_entries s   the entries, up to the first bad one
+--   list_of s        `All n` with how many they are, or `Bad c` with the column, in s, of the first bad byte
+--   Listing s o x r  the list s was read into the lent words o: x is what they hold then, and r the answer
 -- Theorems.antt: with one word lent for two bytes of s nothing is cut.
 -- Assumes nothing.
 use Rattle.std.specs.Prelude.{ℕ, zero, suc, ◌+◌, List, [], ◌∷◌, cond, ◌≡◌, length, ltb}

@@ -8,7 +8,7 @@ ghost use Rattle.text_lists.specs.Lists.{Listing};
 use text_records::Numbered;
 
 // How many entries there are; or the column, from the start of the rest, of the first bad byte.
-#[derive(Drop)]
+#[derive(Clone, Copy)]
 pub enum Listed {
     All(usize),
     Bad(usize),

@@ -121,11 +121,13 @@ prints_step b v k n s ih true d true o p m e =
           ∙ ap (λ (l : List ℕ). l ++ s) (sym (dec_snoc v (digit_of b) p m h)) ∙ r.1),
     )
 
-prints : (s : List ℕ) (v k n : ℕ) → 0 < v → v ≤ largest → digits_from v k s ≡ Is n → (n ≤ largest) × (dec v ++ s ≡ dec n)
+prints : (s : List ℕ) (v k n : ℕ) → 0 < v → v ≤ largest → digits_from v k s ≡ Is n
+    → (n ≤ largest) × (dec v ++ s ≡ dec n)
 unfolding digits_from
 prints [] v k n p m e = let q : v ≡ n = cc in (omega arith, append-nil (dec v) ∙ ap dec q)
 prints (b ∷ s) v k n p m e =
-    prints_step b v k n s (λ e' o. prints s (v * 10 + digit_of b) (k + 1) n (omega arith) o e') (ltb (digit_of b) 10) refl
+    prints_step b v k n s (λ e' o. prints s (v * 10 + digit_of b) (k + 1) n (omega arith) o e')
+    (ltb (digit_of b) 10) refl
     (leb (v * 10 + digit_of b) largest) refl p m e
 
 first_step : (b n : ℕ) (s : List ℕ) (x : Bool) → ltb (digit_of b) 10 ≡ x → (b ≡ 48 → ⊥) → digits_from 0 0 (b ∷ s) ≡ Is n

@@ -1,10 +1,10 @@
 -- A number's text, as it is read and as it is printed. Paper: 01, "Lines", "A number has 1 to 5 digits, no leading
 -- zero but in 0 itself, and is at most 65535".
 --
---   digit_of b          the value of the byte b as a digit; 10 if it is none
---   number_in s         the number that the field s holds, or the place of its first bad byte
---   dec n              the printed form of n, for any n of 32 bits (line numbers go to 999999)
---   last_three n        the last three digits of n
+--   digit_of b    the value of the byte b as a digit; 10 if it is none
+--   number_in s   the number that the field s holds, or the place of its first bad byte
+--   dec n         the printed form of n, for any n of 32 bits (line numbers go to 999999)
+--   last_three n  the last three digits of n
 -- Theorems.antt: `number_in s` is n exactly if s is `dec n` and n is at most 65535.
 -- Assumes nothing.
 use Rattle.std.specs.Prelude.{ℕ, zero, suc, ◌+◌, ◌-◌, ◌*◌, ◌/◌, ◌%◌, List, [], ◌∷◌, ◌++◌, cond, ltb, leb, eqb}

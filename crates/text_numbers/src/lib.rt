@@ -7,7 +7,7 @@ ghost use Rattle.text_numbers.specs.Numbers.{number_in, last_three, dec};
 
 // What a field holds: a number; or none, and then the place in the field of the first byte with which it stops being
 // the start of one (the field's length, if only its end came too early).
-#[derive(Drop)]
+#[derive(Clone, Copy)]
 pub enum Num {
     Is(u16),
     Bad(usize),

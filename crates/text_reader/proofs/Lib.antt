@@ -1,3 +1,1 @@
-pub mod Started
-pub mod Apart
 pub mod Theorems

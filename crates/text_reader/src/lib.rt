@@ -7,7 +7,7 @@ ghost use Rattle.std.specs.Prelude.{◌≡◌};
 ghost use Rattle.text_fields.specs.Fields.{next_start, FieldOf};
 
 // A start past the line says that there are no more fields.
-#[derive(Drop)]
+#[derive(Clone, Copy)]
 pub struct Reader<'a> {
     pub line: &'a [u8],
     pub at: usize,

@@ -91,7 +91,7 @@ pair_at_next s a x y n q = first (number_at s a) refl q
 -- ---- the line
 
 -- a line goes by its first field's word
-pub record_of_by : (s f : List ℕ) (n : ℕ) (w v : Keyword) → f ≡ field_at s 0 → n ≡ next_start s 0 → w ≡ keyword_of f → w ≡ v
-    → record_of s ≡ after_word s n v
+pub record_of_by : (s f : List ℕ) (n : ℕ) (w v : Keyword) → f ≡ field_at s 0 → n ≡ next_start s 0
+    → w ≡ keyword_of f → w ≡ v → record_of s ≡ after_word s n v
 unfolding record_of
 record_of_by s f n w v q m k r = rw (← r, k, q, m)

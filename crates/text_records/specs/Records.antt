@@ -2,12 +2,12 @@
 -- and "keeps where the next field starts"; every bad line has the column of its first bad byte (02, request 1). What is
 -- carried from field to field is where the next field starts; a place past the line says that there is none.
 --
---   end_before n        where the field before the one that starts at n ends
---   number_at s a       the number of the field that starts at a, and where the next field starts
---   pair_at s a         two numbers, one field after the other
---   last_pair s p       the same, where the line has to end after the second
---   record_of s         the record of the line s; for a step with a list up to its numbers, with the place where the
---                      rest of the line starts
+--   end_before n   where the field before the one that starts at n ends
+--   number_at s a  the number of the field that starts at a, and where the next field starts
+--   pair_at s a    two numbers, one field after the other
+--   last_pair s p  the same, where the line has to end after the second
+--   record_of s    the record of the line s; for a step with a list up to its numbers, with the place where the rest
+--                  of the line starts
 -- What a well-formed line is stands in `text_forms`, in the direction of printing; there it is proved that both agree.
 -- Assumes nothing.
 use Rattle.std.specs.Prelude.{ℕ, ◌+◌, ◌-◌, List, cond, length, ltb}

@@ -12,14 +12,14 @@ use text_keywords::Keyword;
 use text_numbers::Num;
 
 // The number of a field and where the next field starts; or the column of the first bad byte.
-#[derive(Drop)]
+#[derive(Clone, Copy)]
 pub enum Numbered {
     Is(u16, usize),
     Bad(usize),
 }
 
 // Two of them, and where the field after the second starts.
-#[derive(Drop)]
+#[derive(Clone, Copy)]
 pub enum NumberPair {
     Is(u16, u16, usize),
     Bad(usize),
@@ -27,7 +27,7 @@ pub enum NumberPair {
 
 // The records. `Listing` is a step that takes a list, with where the rest of the line after its numbers starts;
 // `Plain` one that takes none. A step of one number has 0 for the other.
-#[derive(Drop)]
+#[derive(Clone, Copy)]
 pub enum LineRecord {
     Open(u16, u16),
     Plain(Kind, u16, u16),

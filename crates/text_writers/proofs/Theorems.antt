@@ -17,7 +17,8 @@ module _ {o x y : List ℕ} {r q : ℕ} where
   pub put_number_unique : (n : ℕ) → Wrote (field_text n) o x r → Wrote (field_text n) o y q → (x ≡ y) × (r ≡ q)
   put_number_unique n v w = wrote_unique v w
 
-  pub put_numbers_unique : (ns : List ℕ) → Wrote (fields_text ns) o x r → Wrote (fields_text ns) o y q → (x ≡ y) × (r ≡ q)
+  pub put_numbers_unique : (ns : List ℕ) → Wrote (fields_text ns) o x r → Wrote (fields_text ns) o y q
+      → (x ≡ y) × (r ≡ q)
   put_numbers_unique ns v w = wrote_unique v w
 
   pub put_part_unique : (s : List ℕ) (from n : ℕ) → Wrote (fields_text (stretch_of s from n)) o x r

@@ -51,7 +51,8 @@ bytes_end t i {o} {x} h e w = go (dec_lt i (length t))
 fields_text_snoc : (ns : List ℕ) (n : ℕ) → fields_text (ns ++ (n ∷ [])) ≡ fields_text ns ++ field_text n
 unfolding fields_text
 fields_text_snoc [] n = append-nil (field_text n)
-fields_text_snoc (m ∷ ns) n = rw (fields_text_snoc ns n) (sym (append_assoc (field_text m) (fields_text ns) (field_text n)))
+fields_text_snoc (m ∷ ns) n =
+    rw (fields_text_snoc ns n) (sym (append_assoc (field_text m) (fields_text ns) (field_text n)))
 
 -- of a list of numbers
 pub fields_more : (ns : List ℕ) (i : ℕ) {o x y : List ℕ} {at r : ℕ} → i < length ns

@@ -1,10 +1,10 @@
 -- The text of fields. Paper: 01, "Lines", "fields parted by a tab", and "Its fields go into the rest of the lent
 -- answer line, after the line number and a tab". A number's printed form is `dec` of `text_numbers`.
 --
---   field_text n        a tab, and n in its printed form
---   fields_text ns      one such field for each number of ns, in order
+--   field_text n    a tab, and n in its printed form
+--   fields_text ns  one such field for each number of ns, in order
 --   stretch_of s from n the n words of s from the place `from` on, or as many as there are
---   Every P ns         each number of ns has the property P
+--   Every P ns      each number of ns has the property P
 -- Assumes nothing.
 use Rattle.std.specs.Prelude.{ℕ, List, [], ◌∷◌, ◌++◌, take, drop}
 use Rattle.text_fields.specs.Fields.{tab}

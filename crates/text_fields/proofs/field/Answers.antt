@@ -17,9 +17,6 @@ returns-then-line-at c =
       place = omega (arith, part_start_past a.line.now a.at c.if-line-at.true);
     }
 
-pub field_end-e-requires : goal.field_end-e-requires
-field_end-e-requires c κs = search rules
-
 pub slice_bounds-result-count-2 : goal.slice_bounds-result-count-2
 slice_bounds-result-count-2 c = let h = field_end_bounds _ _ _ c.field_end-e.ensures c.if-line-at.false in search rules
 
@@ -31,10 +28,9 @@ slice_bounds-result-end-2 c = let h = field_end_bounds _ _ _ c.field_end-e.ensur
 
 pub returns : goal.returns
 returns c =
-    let found = c in
-    let a = found.before.before.before.args in
+    let a = c.args in
     record {
-      bytes = field_at_part _ _ _ found.field_end-e.ensures;
+      bytes = field_at_part _ _ _ c.field_end-e.ensures;
       memory = refl;
-      place = omega (arith, part_start_is a.line.now a.at found.before.if-line-at.false);
+      place = omega (arith, part_start_is a.line.now a.at c.if-line-at.false);
     }

@@ -7,9 +7,6 @@ use Rattle.text_fields.proofs.FieldLaws.{next_start_past, next_start_is, field_e
 use borrow.Author.Rules.{rules}
 use Rattle.text_fields.proofs.next_start.Goals as goal
 
-pub field_end-requires : goal.field_end-requires
-field_end-requires c κs = search rules
-
 pub overflow_add-result : goal.overflow_add-result
 overflow_add-result c = let h = field_end_bounds _ _ _ c.field_end.ensures c.if-at-line.true in search rules
 

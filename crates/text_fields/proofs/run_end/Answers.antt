@@ -1,11 +1,9 @@
 -- `text_fields::run_end` meets its contract. The invariant: the place reached, and the run from there on, still give
 -- the run's end.
 -- Assumes nothing.
-use Prim.Native.Nat.{◌-◌}
 use mathlib.Core.Path.{refl}
 use native.Mathlib.Omega.{arith}
-use borrow.Author.Rules.{rules}
-use Rattle.text_fields.specs.Fields.{run_to, end_from}
+use Rattle.text_fields.specs.Fields.{end_from}
 use Rattle.text_fields.proofs.FieldLaws.{run_to_stop, run_to_go, run_to_end}
 use Rattle.text_fields.proofs.run_end.Goals as goal
 
@@ -16,20 +14,18 @@ loop-i-init c = refl
 pub returns-then-bytes-i : goal.returns-then-bytes-i
 unfolding end_from
 returns-then-bytes-i c =
-    let x = c in
     omega (
       arith,
-      run_to_stop x.before.args.stop x.before.args.bytes.now x.loop-i.i
+      run_to_stop c.args.stop c.args.bytes.now c.loop-i.i
           c.loop-i-test.true c.if-bytes-i.true,
     )
 
 pub loop-i-preserved : goal.loop-i-preserved
 unfolding end_from
 loop-i-preserved c =
-    let x = c in
     omega (
       arith,
-      run_to_go x.before.args.stop x.before.args.bytes.now x.loop-i.i
+      run_to_go c.args.stop c.args.bytes.now c.loop-i.i
           c.loop-i-test.true c.if-bytes-i.false,
     )
 

@@ -3,7 +3,6 @@
 -- Assumes nothing.
 use Prim.Native.Nat.{◌+◌, ◌-◌}
 use mathlib.Core.Path.{◌≡◌}
-use borrow.Author.Rules.{rules}
 use lib.ListN.{length, drop}
 use Rattle.text_fields.specs.Fields.{run_to, end_from}
 use Rattle.text_fields.proofs.run_end.Given as goal

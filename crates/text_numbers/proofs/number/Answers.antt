@@ -1,21 +1,14 @@
 -- `text_numbers::number` meets its contract. The invariant: what is left of the field, with the value and the count
 -- of the digits before it, still gives the answer; each way out of a turn is one law of `digits_from`.
 -- Assumes nothing.
-use Prim.Native.Nat.{◌-◌, ◌≤◌}
 use mathlib.Core.Path.{refl, sym, ◌∙◌}
 use native.Mathlib.Omega.{arith}
 use borrow.Author.Rules.{rules}
 use lib.ListN.{get_or}
-use Rattle.text_numbers.specs.Numbers.{digits_from, number_in}
 use Rattle.text_numbers.proofs.NumberLaws.{number_in_empty, number_in_zero, number_in_zero_more, number_in_start}
 use Rattle.text_numbers.proofs.NumberLaws.{digit_range, digit_of_is, digit_of_none}
 use Rattle.text_numbers.proofs.NumberLaws.{digits_from_end, digits_from_stop, digits_from_over, digits_from_go}
 use Rattle.text_numbers.proofs.number.Goals as goal
-
--- the byte that was read is a digit
-read : (c : tie.Else4 invariant-loop decreases-loop) → let turn = c.before.before.before in
-    let b = get_or turn.before.before.before.before.args.field.now turn.loop.i 0 in (48 ≤ b) × (b ≤ 57)
-read c = digit_range _ c.if4.false
 
 pub returns-then-field-eq0 : goal.returns-then-field-eq0
 returns-then-field-eq0 c = sym (number_in_empty _ c.if-field-eq0.true)
@@ -31,34 +24,33 @@ loop-i-init c = (search rules, search rules, sym (number_in_start _ c.if-field-e
 
 pub returns-then-b : goal.returns-then-b
 returns-then-b c =
-    let b = c in
-    sym (digits_from_stop _ _ _ _ _ refl b.loop-i-test.true (digit_of_none _ c.if-b.true))
-    ∙ b.before.loop-i.invariant.2
+    sym (digits_from_stop _ _ _ _ _ refl c.loop-i-test.true (digit_of_none _ c.if-b.true))
+    ∙ c.loop-i.invariant.2
 
 pub overflow_cast-w : goal.overflow_cast-w
-overflow_cast-w c = let d = read c in omega arith
+overflow_cast-w c = let d = digit_range (get_or c.args.field.now c.loop-i.i 0) c.if-b.false in omega arith
 
 pub overflow_sub-w : goal.overflow_sub-w
-overflow_sub-w c = (read c).0
+overflow_sub-w c = (digit_range (get_or c.args.field.now c.loop-i.i 0) c.if-b.false).0
 
 pub overflow_add-w : goal.overflow_add-w
-overflow_add-w c = let d = read c in omega (arith, c.loop-i.invariant.1)
+overflow_add-w c =
+    let d = digit_range (get_or c.args.field.now c.loop-i.i 0) c.if-b.false in
+    omega (arith, c.loop-i.invariant.1)
 
 pub returns-then-w-gt65535 : goal.returns-then-w-gt65535
 returns-then-w-gt65535 c =
-    let b = c in
-    let d = read c in
-    sym (digits_from_over _ _ _ _ _ (digit_of_is _ d.0 d.1) b.loop-i-test.true (omega arith) c.if-w-gt65535.true)
-    ∙ b.before.loop-i.invariant.2
+    let d = digit_range (get_or c.args.field.now c.loop-i.i 0) c.if-b.false in
+    sym (digits_from_over _ _ _ _ _ (digit_of_is _ d.0 d.1) c.loop-i-test.true (omega arith) c.if-w-gt65535.true)
+    ∙ c.loop-i.invariant.2
 
 pub loop-i-preserved : goal.loop-i-preserved
 loop-i-preserved c =
-    let b = c in
-    let d = read c in (
+    let d = digit_range (get_or c.args.field.now c.loop-i.i 0) c.if-b.false in (
       search rules,
       search rules,
-      sym (digits_from_go _ _ _ _ _ (digit_of_is _ d.0 d.1) b.loop-i-test.true (omega arith) c.if-w-gt65535.false)
-          ∙ b.before.loop-i.invariant.2,
+      sym (digits_from_go _ _ _ _ _ (digit_of_is _ d.0 d.1) c.loop-i-test.true (omega arith) c.if-w-gt65535.false)
+          ∙ c.loop-i.invariant.2,
     )
 
 pub returns : goal.returns
