@@ -74,7 +74,8 @@ text_fits n a rs h few =
     rw (length-append, length-append, length-append)
     (omega (arith, dec_six n (omega arith), word_for_length (laid a).refuses (laid a).number))
 
-low_fits : (n : ℕ) (a : Answer) (rs : List ℕ) → n ≤ last_line → Every Low (fields_of a rs) → length (fields_of a rs) ≤ 324
+low_fits : (n : ℕ) (a : Answer) (rs : List ℕ) → n ≤ last_line → Every Low (fields_of a rs)
+    → length (fields_of a rs) ≤ 324
     → length (answer_text n a rs) ≤ longest_answer
 low_fits n a rs h low few = text_fits n a rs h (omega (arith, fields_text_four (fields_of a rs) low))
 

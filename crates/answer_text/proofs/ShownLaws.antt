@@ -36,7 +36,8 @@ shown_over : (p : Part) (ws rs : List ℕ) (from : ℕ) → from + p.words ≤ l
     → part_shown p (over ws rs) from ≡ part_shown p ws from
 shown_over p ws rs from h = rw (stretch_of_over from p.words ws rs h)
 
-pub fields_of_over : (a : Answer) (ws rs : List ℕ) → word_count a ≤ length ws → fields_of a (over ws rs) ≡ fields_of a ws
+pub fields_of_over : (a : Answer) (ws rs : List ℕ) → word_count a ≤ length ws
+    → fields_of a (over ws rs) ≡ fields_of a ws
 unfolding fields_in
 fields_of_over a ws rs h =
     let l = laid a in

@@ -53,7 +53,8 @@ placed_text n r i rs = rw (append-nil (tab ∷ dec i))
 
 -- `refused 17 b`, and `refused 17 i b` for an entry
 pub blamed_text_lem : (n b : ℕ) (rs : List ℕ)
-    → answer_text n (RefusedBlamed b) rs ≡ dec n ++ tab ∷ (refused_text ++ tab ∷ (dec 17 ++ tab ∷ dec b) ++ line_end ∷ [])
+    → answer_text n (RefusedBlamed b) rs
+    ≡ dec n ++ tab ∷ (refused_text ++ tab ∷ (dec 17 ++ tab ∷ dec b) ++ line_end ∷ [])
 unfolding laid answer_text word_for fields_in fields_text
 blamed_text_lem n b rs = rw (append-nil (tab ∷ dec b))
 

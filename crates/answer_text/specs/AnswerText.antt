@@ -1,11 +1,11 @@
 -- The text of an answer. Paper: 01, "Lines", "Answer fields", and "the answer's first field is the line number"; 02,
 -- 3/13.
 --
---   opened_text, ..       the words of the answers
---   word_of a             the word of the answer a, by its layout (`laid` of `rules`)
---   fields_of a rs        the numbers after it: the number of a refusal, and each value with its words; rs is the
---                        report, whose first words are the answer's own
---   answer_text n a rs    the whole answer line of line n, with its LF
+--   opened_text, ..     the words of the answers
+--   word_of a           the word of the answer a, by its layout (`laid` of `rules`)
+--   fields_of a rs      the numbers after it: the number of a refusal, and each value with its words; rs is the
+--                       report, whose first words are the answer's own
+--   answer_text n a rs  the whole answer line of line n, with its LF
 -- Assumes nothing.
 use Rattle.std.specs.Prelude.{ℕ, ◌+◌, List, [], ◌∷◌, ◌++◌, Bool, cond, eqb}
 use Rattle.text_fields.specs.Fields.{tab, line_end}

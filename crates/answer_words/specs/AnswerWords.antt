@@ -1,6 +1,6 @@
 -- An answer as four words, for callers that know numbers alone.
 --
---   answer_words a         the answer's number, then its values, three in all: 0 where it has none
+--   answer_words a  the answer's number, then its values, three in all: 0 where it has none
 -- Assumes nothing.
 use Rattle.std.specs.Prelude.{ℕ, List, [], ◌∷◌}
 use Rattle.rules.specs.Answers.{laid}

@@ -3,7 +3,8 @@
 
 ghost use Rattle.std.specs.Prelude.{◌≡◌, [], ◌∷◌};
 ghost use Rattle.std.proofs.lemmas.List.Edits.{sets};
-ghost use Rattle.rules.specs.Answers.{none, layout as layout_of, with_none, with_one, with_two, laid, number_of, word_count};
+ghost use Rattle.rules.specs.Answers.{none, layout as layout_of, with_none, with_one, with_two, laid, number_of};
+ghost use Rattle.rules.specs.Answers.{word_count};
 ghost use Rattle.answer_words.specs.AnswerWords.{answer_words};
 
 use rules::{Answer, Layout, Part};

@@ -142,7 +142,7 @@ pub one_by_one_length : (F : Form) (n : ℕ) (list : List ℕ) (s : Tables) (rs 
     → length (one_by_one F n list s rs) ≡ length rs
 unfolding one_by_one
 one_by_one_length F n list s [] = refl
-one_by_one_length F n list s (r ∷ rs) = ap suc (one_by_one_length F n list _ rs)
+one_by_one_length F n list s (r ∷ rs) = ap suc (one_by_one_length F n list (step_record F n list s r).after rs)
 
 pub all_answers_length : (os : List Outcome) → length (all_answers os) ≡ 4 * length os
 unfolding all_answers
@@ -153,8 +153,9 @@ all_answers_length (o ∷ os) = rw length-append (omega (arith, answer_words_len
 
 -- one record more, and no more
 module _ (F : Form) (n : ℕ) (list : List ℕ) (s : Tables) (rs : List Record) (i : ℕ) where
-  one_more : i < length rs → one_by_one F n list s (drop i rs) ≡ step_record F n list s (record_at rs i) ∷ one_by_one F n
-      list (step_record F n list s (record_at rs i)).after (drop (i + 1) rs)
+  one_more : i < length rs → one_by_one F n list s (drop i rs)
+      ≡ step_record F n list s (record_at rs i)
+      ∷ one_by_one F n list (step_record F n list s (record_at rs i)).after (drop (i + 1) rs)
   unfolding one_by_one
   one_more h =
       let x = step_record F n list s (record_at rs i) in

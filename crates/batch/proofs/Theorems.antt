@@ -61,6 +61,8 @@ module _ (F : Form) (apart : Apart F) (list : List ℕ) where
       → Taken F list s rs os → os ≡ one_by_one F own list s rs
   unfolding one_by_one
   taken_one_by_one own s [] [] e g none_left = refl
+  taken_one_by_one own s [] (o ∷ os) e g t = elim t [ ]
+  taken_one_by_one own s (r ∷ rs) [] e g t = elim t [ ]
   taken_one_by_one own s (r ∷ rs) (o ∷ os) e g (next n h t) =
       let x = record_raw F apart list s r g n h in
       let y = record_raw F apart list s r g own (omega arith) in

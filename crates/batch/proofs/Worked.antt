@@ -16,7 +16,8 @@ use Rattle.batch.specs.WorkedBatch.{worked_list, worked_records, worked_outcome}
 use Rattle.batch.specs.declared.Called.TheVariants.{Refused}
 
 pub worked_batch : batched small worked_list (fresh 3 4) worked_records 150 60 ≡ worked_outcome
-unfolding sizes_in_bounds sizes_fit in_bounds all_below is places changed hop comes task_passes promise_passes sound_test
+unfolding sizes_in_bounds sizes_fit in_bounds all_below is places changed hop comes task_passes promise_passes
+    sound_test
     laid first differs entry_refusal first_bad given awaits walk pairs followed got guarded started
     answer_words shape_of takes_list one_by_one last_tables all_answers all_words has_room called refused_with
     refused_at_with

@@ -1,21 +1,21 @@
 -- A whole scan's steps in one call. Paper: 02, 2/13.
 --
 --   record_at rs i            the i-th record
---   one_by_one F n list s rs   what the steps of the records answer, do and report, taken one by one, each with a report
---                            of its own of n words
+--   one_by_one F n list s rs  what the steps of the records answer, do and report, taken one by one, each with a
+--                             report of its own of n words
 --   last_tables s os          the tables after them
 --   all_answers os            their answers, four words each
 --   all_words os              their report words, one after another
---   Taken F list s rs os     os are what the steps answer, do and report, one by one, each with a report of its own of
---                            any length that has room
---   has_room F T P n m k      n records are not too many, and have room in a report of m words and in k words for their
---                            answers
+--   Taken F list s rs os      os are what the steps answer, do and report, one by one, each with a report of its own
+--                             of any length that has room
+--   has_room F T P n m k      n records are not too many, and have room in a report of m words and in k words for
+--                             their answers
 --   call_rows F s n m k       refusals 1 and 2 of the call
---   CallOutcome              the answer to the call, the tables after it, and what is written over the front of the
---                            report and of the answers
---   done s os, refused r s   all steps taken; refused by r
---   batched F list s rs m k  what a call with a report of m words and k words for the answers makes
---   Batches ..               what a call leaves of the tables, the report and the answers
+--   CallOutcome               the answer to the call, the tables after it, and what is written over the front of the
+--                             report and of the answers
+--   done s os, refused r s    all steps taken; refused by r
+--   batched F list s rs m k   what a call with a report of m words and k words for the answers makes
+--   Batches ..                what a call leaves of the tables, the report and the answers
 -- Assumes nothing.
 use Rattle.std.specs.Prelude.{ℕ, ◌*◌, ◌≤◌, ◌≡◌, List, [], ◌∷◌, ◌++◌, Bool, cond, not, ◌&&◌, eqb, leb, length, get_or}
 use Rattle.words.specs.Words.{Form, sizes_in_bounds, room_for, most_records}

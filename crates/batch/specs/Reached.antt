@@ -1,7 +1,7 @@
 -- The tables that steps and calls come to. Demand 3 speaks of them: "From fresh tables, after any steps".
 --
---   Reached F s       s are the tables after some steps, each with a report of its own, and some calls of a batch, from
---                     fresh tables
+--   Reached F s  s are the tables after some steps, each with a report of its own, and some calls of a batch, from
+--                fresh tables
 -- Assumes nothing.
 use Rattle.std.specs.Prelude.{ℕ, ◌≤◌, List}
 use Rattle.words.specs.Words.{Form}

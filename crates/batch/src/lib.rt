@@ -13,7 +13,7 @@ use table_sound::tables_pass;
 use words::{Limit, room_for, sizes_in_bounds};
 
 // What the call answers: its refusal, by which nothing was written, or the number of report words that its steps gave.
-#[derive(Drop)]
+#[derive(Clone, Copy)]
 pub enum Called {
     Refused(u16),
     Done(usize),

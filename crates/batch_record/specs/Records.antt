@@ -7,7 +7,7 @@
 --   record_rows F n list s r  all refusals of the record's step, in their order
 --   raw_record F list s r     what the step answers, does and reports, without refusals 1 and 2: as `raw`
 --   step_record F n list s r  and with them, n being the length of a report of its own: as `step`
---   Turns ..                 what the turn of a record leaves of the tables, the report and the answers
+--   Turns ..                  what the turn of a record leaves of the tables, the report and the answers
 -- Assumes nothing.
 use Rattle.std.specs.Prelude.{ℕ, ◌+◌, ◌*◌, ◌≡◌, List, [], ◌∷◌, ◌++◌, ◌&&◌, ltb, length, take, drop}
 use Rattle.std.proofs.lemmas.List.Edits.{sets}

@@ -14,7 +14,7 @@ use steps::raw;
 
 // A step with its numbers: `other` is the promise, or the child of an async. A step that takes a list takes the part
 // of the lent list that begins at `start` and has `length` entries. What a step does not name is ignored.
-#[derive(Drop)]
+#[derive(Clone, Copy)]
 pub struct Record {
     pub kind: Kind,
     pub task: u16,

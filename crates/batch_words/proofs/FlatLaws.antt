@@ -20,8 +20,8 @@ use Rattle.batch_words.specs.Flat.{record_in, records_of, is_flat, called_number
 -- ---- five words of a list
 
 five : (ws : List ℕ) (i : ℕ) → i + 5 ≤ length ws
-    → drop i ws ≡ get_or ws i 0 ∷ get_or ws (i + 1) 0 ∷ get_or ws (i + 2) 0 ∷ get_or ws (i + 3) 0 ∷ get_or ws (i + 4) 0 ∷ drop
-    (i + 5) ws
+    → drop i ws ≡ get_or ws i 0 ∷ get_or ws (i + 1) 0 ∷ get_or ws (i + 2) 0 ∷ get_or ws (i + 3) 0
+    ∷ get_or ws (i + 4) 0 ∷ drop (i + 5) ws
 five ws i h =
     let e₁ : i + 1 ≡ suc i = omega arith in
     let e₂ : i + 2 ≡ suc (suc i) = omega arith in
@@ -105,7 +105,8 @@ records_count (k ∷ t ∷ o ∷ a ∷ []) n e = absurd (omega arith)
 records_count (k ∷ t ∷ o ∷ a ∷ m ∷ ws) n e = omega (arith, records_count ws (n - 1) (omega arith))
 
 -- the i-th record is that of the five words from i * 5 on
-pub records_at : (ws : List ℕ) (i n : ℕ) → length ws ≡ n * 5 → i < n → record_in ws (i * 5) ≡ record_at (records_of ws) i
+pub records_at : (ws : List ℕ) (i n : ℕ) → length ws ≡ n * 5 → i < n
+    → record_in ws (i * 5) ≡ record_at (records_of ws) i
 unfolding records_of record_in
 records_at [] i n e h = absurd (omega arith)
 records_at (k ∷ []) i n e h = absurd (omega arith)

@@ -1,14 +1,14 @@
 -- The batch in flat words. Paper: 02, 2/13, for callers that know numbers alone.
 --
---   kind_of k                 the kind that the word k stands for
---   record_by k t o a n       the record of five words
---   record_in ws i            the record whose words begin at i
---   records_of ws             the records that the words stand for
---   is_flat ws                the words are whole records, each of one of the five kinds
---   called_number c           the answer to a call as a number: its refusal, or 0
---   flatly F list s ws m k   the outcome of a call by words: refused by 1 if they are no records, else that of the
---                            call by the records
---   Flats ..                 what a call by words returns, and leaves of the tables, the report and the answers
+--   kind_of k               the kind that the word k stands for
+--   record_by k t o a n     the record of five words
+--   record_in ws i          the record whose words begin at i
+--   records_of ws           the records that the words stand for
+--   is_flat ws              the words are whole records, each of one of the five kinds
+--   called_number c         the answer to a call as a number: its refusal, or 0
+--   flatly F list s ws m k  the outcome of a call by words: refused by 1 if they are no records, else that of the
+--                           call by the records
+--   Flats ..                what a call by words returns, and leaves of the tables, the report and the answers
 -- Assumes nothing.
 use Rattle.std.specs.Prelude.{ℕ, ◌+◌, ◌≡◌, List, [], ◌∷◌, Bool, true, false, cond, ◌&&◌, eqb, leb, get_or}
 use Rattle.words.specs.Words.{Form}
@@ -29,7 +29,8 @@ abbrev pub record_by : ℕ → ℕ → ℕ → ℕ → ℕ → Record
 record_by k t o a n = record { kind = kind_of k; task = t; other = o; start = a; length = n }
 
 unfoldable pub record_in : List ℕ → ℕ → Record
-record_in ws i = record_by (get_or ws i 0) (get_or ws (i + 1) 0) (get_or ws (i + 2) 0) (get_or ws (i + 3) 0) (get_or ws (i + 4) 0)
+record_in ws i = record_by (get_or ws i 0) (get_or ws (i + 1) 0) (get_or ws (i + 2) 0) (get_or ws (i + 3) 0)
+    (get_or ws (i + 4) 0)
 
 -- five words each; too few words for a record stand for none
 unfoldable pub records_of : List ℕ → List Record

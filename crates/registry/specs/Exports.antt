@@ -1,11 +1,11 @@
 -- What the exported functions return and write: the answer of a step as a number and four lent words.
 --
---   Exported              the returned number, the tables, the report and the answer words after a call
---   exported s rs ws o    those of the outcome o of a step on the tables s with the report rs, and the words ws lent
---                         for the answer; with fewer than four words lent for it the call is refused by 1, and nothing
---                         is written
---   Exports e r s' rs ws   a call returned r and left these
---   ExportsStep x s rs ws r s' rs' ws'   they are those of the step x on the tables s, the report rs and the words ws
+--   Exported                            the returned number, the tables, the report and the answer words after a call
+--   exported s rs ws o                  those of the outcome o of a step on the tables s with the report rs, and the
+--                                       words ws lent for the answer; with fewer than four words lent for it the call
+--                                       is refused by 1, and nothing is written
+--   Exports e r s' rs ws                a call returned r and left these
+--   ExportsStep x s rs ws r s' rs' ws'  they are those of the step x on the tables s, the report rs and the words ws
 -- Assumes nothing.
 use Rattle.std.specs.Prelude.{ℕ, ◌≡◌, List, cond, ltb, length}
 use Rattle.words.specs.Words.{small}

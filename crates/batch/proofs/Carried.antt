@@ -1,2 +1,0 @@
-pub mod record_at
-pub mod batch

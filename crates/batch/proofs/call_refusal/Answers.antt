@@ -1,0 +1,28 @@
+-- `batch::call_refusal` meets its contract: each return knows which of the two rows applies. Assumes nothing.
+use Rattle.rules.specs.Refusals.{first}
+use mathlib.Core.Path.{sym, ◌∙◌}
+use Rattle.words.specs.Words.{small}
+use Rattle.rules.specs.Tables.{tables}
+use Rattle.rules.proofs.BoundsLaws.{sizes_fit_of}
+use Rattle.batch.proofs.BatchLaws.{has_room_true}
+use Rattle.batch.proofs.call_refusal.Goals as goal
+
+pub tables_pass-requires : goal.tables_pass-requires
+tables_pass-requires c =
+    let a = c.args in
+    sizes_fit_of small (tables a.tasks.now a.promises.now)
+    (has_room_true small _ _ _ _ _ (sym c.has_room.ensures ∙ c.if-has_room.true)).sizes
+
+pub returns-then-tables_pass : goal.returns-then-tables_pass
+unfolding first
+returns-then-tables_pass c =
+    rw (← c.has_room.ensures, c.if-has_room.true, ← c.tables_pass.ensures, c.if-tables_pass.true)
+
+pub returns-then-has_room : goal.returns-then-has_room
+unfolding first
+returns-then-has_room c =
+    rw (← c.has_room.ensures, c.if-has_room.true, ← c.tables_pass.ensures, c.if-tables_pass.false)
+
+pub returns : goal.returns
+unfolding first
+returns c = rw (← c.has_room.ensures, c.if-has_room.false)

@@ -1,0 +1,36 @@
+-- `batch::has_room` meets its contract: within the bounds no product overflows. Assumes nothing.
+use Prim.Native.Nat.{◌≤◌}
+use mathlib.Core.Path.{sym, ◌∙◌}
+use native.Mathlib.Nat.{mul-le-mul}
+use Rattle.words.specs.Words.{small, room_for}
+use Rattle.words.proofs.WordLaws.{sizes_in_bounds_true}
+use Rattle.batch.proofs.BatchLaws.{room_no_sizes, room_too_many, room_rest}
+use native.Mathlib.Omega.{arith}
+use Rattle.batch.proofs.has_room.Goals as goal
+
+pub returns-then-records-gt-RECORDS : goal.returns-then-records-gt-RECORDS
+returns-then-records-gt-RECORDS c =
+    let a = c.args in
+    room_too_many small a.tasks a.promises a.records a.report a.answers c.if-records-gt-RECORDS.true
+
+pub room_for-requires : goal.room_for-requires
+room_for-requires c = sym c.sizes_in_bounds.ensures ∙ c.if-sizes_in_bounds.true
+
+pub overflow_mul-reported : goal.overflow_mul-reported
+overflow_mul-reported c =
+    let b = sizes_in_bounds_true small _ _ (sym c.sizes_in_bounds.ensures ∙ c.if-sizes_in_bounds.true) in
+    let h : c.room_for.result ≤ room_for small.most_tasks small.most_promises =
+    omega (arith, c.room_for.ensures, b.tasks, b.promises) in
+    omega (arith, mul-le-mul c.if-records-gt-RECORDS.false h)
+
+pub returns-then-sizes_in_bounds : goal.returns-then-sizes_in_bounds
+returns-then-sizes_in_bounds c =
+    let a = c.args in
+    rw c.room_for.ensures (room_rest small a.tasks a.promises a.records a.report a.answers
+    (sym c.sizes_in_bounds.ensures ∙ c.if-sizes_in_bounds.true) c.if-records-gt-RECORDS.false)
+
+pub returns : goal.returns
+returns c =
+    let a = c.args in
+    room_no_sizes small a.tasks a.promises a.records a.report a.answers
+    (sym c.sizes_in_bounds.ensures ∙ c.if-sizes_in_bounds.false)
