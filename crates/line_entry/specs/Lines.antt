@@ -1,13 +1,14 @@
 -- The line entry. Paper: 01, "Lines".
 --
---   lent_well n session s n' l    the line number, the session value and the lengths of what is lent are as they must be
---   line_deed line session s n    what a line does
---   Entry, entry_of ..            the number, the session value, the tables, the report, the answer line and its length
---                                after a line
---   held_line x n                 the line that a buffer x gathered, of which n bytes were counted; reply_of x n is its
---                                entry
---   Enters ..                    a call answered and left these
---   OnlyAnswerLine e session s rs   the entry e has an answer line and leaves all else
+--   lent_well n session s n' l     the line number, the session value and the lengths of what is lent are as they
+--                                  must be
+--   line_deed line session s n     what a line does
+--   Entry, entry_of ..             the number, the session value, the tables, the report, the answer line and its
+--                                  length after a line
+--   held_line x n                  the line that a buffer x gathered, of which n bytes were counted; reply_of x n is
+--                                  its entry
+--   Enters ..                      a call answered and left these
+--   OnlyAnswerLine e session s rs  the entry e has an answer line and leaves all else
 -- Assumes nothing.
 use Rattle.std.specs.Prelude.{ℕ, suc, ◌≡◌, List, Bool, cond, ◌&&◌, eqb, leb, ltb, length, take, replicate}
 use Rattle.words.specs.Words.{last_line, longest_line, longest_answer, of_lines, line_report}

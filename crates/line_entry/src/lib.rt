@@ -15,7 +15,7 @@ use words::Limit;
 
 // What the line entry answers: 1 if what it was lent is not as it must be, and then nothing was written, otherwise 0;
 // the session value from then on; and how many bytes the answer line has, its LF included.
-#[derive(Drop)]
+#[derive(Clone, Copy)]
 pub struct Entered {
     pub number: u16,
     pub session: Session,

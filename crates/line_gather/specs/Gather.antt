@@ -2,16 +2,16 @@
 -- 2,048 bytes, passes over the rest of a longer line (one refusal 14), takes a last line without LF if it isn't empty,
 -- and prints one answer line each. At the millionth line it prints `full` and stops".
 --
---   piece_of s from     the bytes of a block s from `from` on that belong to the line there
---   counted L n        how many bytes of a line are there, up to one more than a buffer of L holds: that says that it
---                      is too long
---   got_of L have s at  what a block brings to a line of which `have` bytes are there
---   count_got r         the count in such an answer
+--   piece_of s from           the bytes of a block s from `from` on that belong to the line there
+--   counted L n               how many bytes of a line are there, up to one more than a buffer of L holds: that says
+--                             that it is too long
+--   got_of L have s at        what a block brings to a line of which `have` bytes are there
+--   count_got r               the count in such an answer
 --   gathered_in o have s at   what the buffer o holds then
---   Gathered o have s at x r    the block s was gathered from `at` on into the buffer o: x is what it holds then, and r
---                      the answer
---   Holds t o x n      the buffer, which held o, holds the line t so far: x is what it holds, and n its count
---   number_after n      the number of the line after line n; none after the last
+--   Gathered o have s at x r  the block s was gathered from `at` on into the buffer o: x is what it holds then, and r
+--                             the answer
+--   Holds t o x n             the buffer, which held o, holds the line t so far: x is what it holds, and n its count
+--   number_after n            the number of the line after line n; none after the last
 -- Theorems.antt: block by block the buffer holds the whole line so far, or says that it is too long.
 -- Assumes nothing.
 use Rattle.std.specs.Prelude.{ℕ, ◌+◌, min, List, ◌++◌, Bool, true, false, cond, ◌≡◌, length, take, drop, ltb, eqb}

@@ -8,14 +8,14 @@ use words::Limit;
 
 // A whole line of so many bytes, one more than the buffer holds if it is too long, and where the next one starts in the
 // block; or the block ended, and so many bytes of the line are there.
-#[derive(Drop)]
+#[derive(Clone, Copy)]
 pub enum Got {
     Line(usize, usize),
     More(usize),
 }
 
 // The number of the next line; or there were 999,999.
-#[derive(Drop)]
+#[derive(Clone, Copy)]
 pub enum Numbering {
     Line(u32),
     Full,

@@ -274,7 +274,8 @@ module _ (d : Desk) (b : List ℕ) (from : ℕ) (x : List ℕ) (have : ℕ) (out
           whole : piece_of b from ≡ drop from b
           whole = take_all (run_to line_end (drop from b)) (drop from b) all
 
-      takes_line : end_from line_end b from < length b → Advances d b from T (answered (begun_with d (piece_of b from)) n)
+      takes_line : end_from line_end b from < length b
+          → Advances d b from T (answered (begun_with d (piece_of b from)) n)
       unfolding end_from piece_of
       takes_line l =
           subst (λ (t : Turn). Advances d b from t (answered (begun_with d (piece_of b from)) n))

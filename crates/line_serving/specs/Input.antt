@@ -2,17 +2,18 @@
 -- with a line buffer of 2,048 bytes, passes over the rest of a longer line (one refusal 14), takes a last line without
 -- LF if it isn't empty, and prints one answer line each. At the millionth line it prints `full` and stops".
 --
---   Desk               what there is between two bytes of the input
---   opening            before the first
---   fed d b            after the byte b
---   feed d s           after the bytes s
---   ended d            after the input's end
---   printed s          what is printed for the input s
---   Buffered d x k     the line buffer x holds the line that has begun, of which k bytes are counted
+--   Desk                  what there is between two bytes of the input
+--   opening               before the first
+--   fed d b               after the byte b
+--   feed d s              after the bytes s
+--   ended d               after the input's end
+--   printed s             what is printed for the input s
+--   Buffered d x k        the line buffer x holds the line that has begun, of which k bytes are counted
 --   Advances d b at t d'  the turn t takes the desk d to d'
 -- A desk has no line buffer: a line is gathered whole there, however long it is.
 -- Assumes nothing.
-use Rattle.std.specs.Prelude.{ℕ, ◌+◌, ◌≡◌, List, [], ◌∷◌, ◌++◌, Bool, true, false, cond, eqb, length, take, drop, replicate}
+use Rattle.std.specs.Prelude.{ℕ, ◌≡◌, List, [], ◌∷◌, ◌++◌, Bool, true, false, cond, eqb}
+use Rattle.std.specs.Prelude.{length, take, drop, replicate}
 use Rattle.words.specs.Words.{longest_line, longest_answer, of_lines, line_report}
 use Rattle.rules.specs.Tables.{Tables, tables}
 use Rattle.text_fields.specs.Fields.{line_end}

@@ -1,11 +1,11 @@
 -- What serving a piece of a block leaves. Paper: 01, "Lines", the program `bench`.
 --
---   full_text              what is said at the millionth line
---   Turn                  everything that there is after a piece of a block
+--   full_text  what is said at the millionth line
+--   Turn       everything that there is after a piece of a block
 --   turn_of b from x k n session s rs out
 --                         the turn of the block b from `from` on, where the line buffer x has gathered k bytes of a
 --                         line, and n lines were answered
---   Serves ..             a call answered and left these
+--   Serves ..  a call answered and left these
 -- Input.antt says the same byte by byte, and Theorems.antt that they agree.
 -- Assumes nothing.
 use Rattle.std.specs.Prelude.{ℕ, ◌≡◌, List, [], ◌∷◌, Bool, true, false, length}

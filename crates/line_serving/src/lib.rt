@@ -11,7 +11,7 @@ use line_session::Session;
 // What there is after a piece of a block: where the next piece starts, how many bytes of the line that has begun were
 // counted, how many lines were answered, the session value, how many bytes were written for an answer, and whether more
 // lines are taken.
-#[derive(Drop)]
+#[derive(Clone, Copy)]
 pub struct Served {
     pub next: usize,
     pub have: usize,

@@ -1,14 +1,16 @@
 -- What a line does in a session. Paper: 01, "Lines".
 --
---   in_session session            the session value is one that a session may have
---   Deed                         what a line does: its answer, the session value, the tables and the report words
---   refused_at_column column       the answer to a line that goes bad at the column
---   unopened_deed f s             what a line of the form f does before a session is opened
---   open_outcome f vs n s         its outcome in an open session, on the tables s
---   in_part T P s o, part_outcome f vs n T P s   an outcome on the first T and P words of the tables s
---   deed_of f vs session s n      what it does
---   Does ..                      a call answered and left these
---   OnlyAnswers d session s      the deed d has an answer and leaves the session value, the tables s and the report
+--   in_session session                          the session value is one that a session may have
+--   Deed                                        what a line does: its answer, the session value, the tables and the
+--                                               report words
+--   refused_at_column column                    the answer to a line that goes bad at the column
+--   unopened_deed f s                           what a line of the form f does before a session is opened
+--   open_outcome f vs n s                       its outcome in an open session, on the tables s
+--   in_part T P s o, part_outcome f vs n T P s  an outcome on the first T and P words of the tables s
+--   deed_of f vs session s n                    what it does
+--   Does ..                                     a call answered and left these
+--   OnlyAnswers d session s                     the deed d has an answer and leaves the session value, the tables s
+--                                               and the report
 -- Assumes nothing.
 use Rattle.std.specs.Prelude.{ℕ, ◌≡◌, List, [], Bool, true, cond, eqb}
 use Rattle.words.specs.Words.{of_lines, sizes_in_bounds}

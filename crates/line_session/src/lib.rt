@@ -16,14 +16,14 @@ use text_forms::LineForm;
 use words::sizes_in_bounds;
 
 // The session value: unopened, or the numbers of tasks and promises of the session.
-#[derive(Drop)]
+#[derive(Clone, Copy)]
 pub enum Session {
     Unopened,
     Open(u16, u16),
 }
 
 // What a line does to the session, with its answer.
-#[derive(Drop)]
+#[derive(Clone, Copy)]
 pub struct Done {
     pub answer: Answer,
     pub session: Session,
