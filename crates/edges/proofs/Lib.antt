@@ -1,1 +1,2 @@
 pub mod BoardLaws
+pub mod ReadLaws

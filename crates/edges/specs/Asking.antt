@@ -1,8 +1,8 @@
 -- What a word and its numbers ask for.
 --
---   takes_numbers h n   a step of the shape h takes n numbers, those of its list among them
---   asked_by w vs       what the keyword w and the numbers vs ask for
---   asks_for s vs       what the word s and the numbers vs ask for
+--   takes_numbers h n  a step of the shape h takes n numbers, those of its list among them
+--   asked_by w vs      what the keyword w and the numbers vs ask for
+--   asks_for s vs      what the word s and the numbers vs ask for
 -- Assumes nothing.
 use Rattle.std.specs.Prelude.{ℕ, List, Bool, cond, eqb, leb, length, get_or}
 use Rattle.step_kinds.specs.declared.Shape.{Shape}

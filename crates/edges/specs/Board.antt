@@ -1,16 +1,17 @@
 -- The board: what is loaded, the task table first, then the promise table and the report. Each has one word more than
 -- it ever needs, so that a case can stand past the edge.
 --
---   board_tasks, board_promises, board_report   the most words that each of them has
+--   board_tasks, board_promises, board_report  the most words that each of them has
 --   promises_from, report_from                 where the promise table and the report begin
---   board_words                               the words of the board
---   sized_stage T P                           the stage of tables of T and P words with the least report, and no story
---   Fits s                                   what the stage s says of the board fits it
---   words_from ws i n                         the n words of ws from index i on, 0 past its end
---   tables_on ws T P                          the tables of T and P words on the board ws
---   with_tables ws s                          the board ws with the tables s on it
---   FreshensOn ws T P r ws'                  the number r and the board ws' are those of making the tables of T and P
---                                            words on the board ws fresh
+--   board_words                                the words of the board
+--   sized_stage T P                            the stage of tables of T and P words with the least report, and no
+--                                              story
+--   Fits s                                     what the stage s says of the board fits it
+--   words_from ws i n                          the n words of ws from index i on, 0 past its end
+--   tables_on ws T P                           the tables of T and P words on the board ws
+--   with_tables ws s                           the board ws with the tables s on it
+--   FreshensOn ws T P r ws'                    the number r and the board ws' are those of making the tables of T and
+--                                              P words on the board ws fresh
 -- Assumes nothing.
 use Rattle.std.specs.Prelude.{ℕ, zero, suc, ◌+◌, ◌≤◌, ◌≡◌, false, List, [], ◌∷◌, get_or}
 use Rattle.std.proofs.lemmas.List.Edits.{sets}

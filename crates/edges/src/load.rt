@@ -6,12 +6,13 @@ ghost use Rattle.edges.specs.Board.{sized_stage, Fits, FreshensOn};
 
 use crate::show;
 use check::same;
+use std::io::Write;
 use table_access::{at, put};
 use words::Limit;
 
 // The board: the most words of its parts, where they begin, and how many words it has. Each part has one word more
 // than it ever needs.
-#[derive(Drop)]
+#[derive(Clone, Copy)]
 pub struct Board {
     pub most: usize,
 }
@@ -32,7 +33,7 @@ impl Board {
 
 // How many words of the board are the task table, the promise table and the report, and whether the steps are those
 // of a story.
-#[derive(Drop)]
+#[derive(Clone, Copy)]
 pub struct Stage {
     pub tasks: usize,
     pub promises: usize,
@@ -103,13 +104,13 @@ pub fn freshen(board: &mut [u16], s: Stage) -> u16
 }
 
 // A report of as many words as the value says.
-fn load_report(values: &[u16], s: Stage) -> Stage
+fn load_report<W: Write>(output: &mut W, values: &[u16], s: Stage) -> Stage
     requires { Fits s }
     ensures { Fits result }
 {
     let room = at(values, 0) as usize;
     if Board::REPORT < room {
-        show::not_understood(b"report");
+        show::not_understood(output, b"report");
         return s;
     }
     Stage {
@@ -121,13 +122,19 @@ fn load_report(values: &[u16], s: Stage) -> Stage
 }
 
 // The load of a word that has its own count of numbers.
-fn load_counted(word: &[u8], values: &[u16], board: &mut [u16], s: Stage) -> Stage
+fn load_counted<W: Write>(
+    output: &mut W,
+    word: &[u8],
+    values: &[u16],
+    board: &mut [u16],
+    s: Stage,
+) -> Stage
     requires { Fits s }
     ensures { Fits result }
 {
     let n = values.len();
     if (n == 1) & same(word, b"report") {
-        return load_report(values, s);
+        return load_report(output, values, s);
     }
     if (n == 0) & same(word, b"fresh") {
         freshen(board, s);
@@ -141,12 +148,18 @@ fn load_counted(word: &[u8], values: &[u16], board: &mut [u16], s: Stage) -> Sta
             story: true,
         };
     }
-    show::not_understood(word);
+    show::not_understood(output, word);
     s
 }
 
 // The load that a line without a name asks for. The report is full of 9s after it.
-pub fn load(word: &[u8], values: &[u16], board: &mut [u16], s: Stage) -> Stage
+pub fn load<W: Write>(
+    output: &mut W,
+    word: &[u8],
+    values: &[u16],
+    board: &mut [u16],
+    s: Stage,
+) -> Stage
     requires { Fits s }
     ensures { Fits result }
 {
@@ -164,5 +177,5 @@ pub fn load(word: &[u8], values: &[u16], board: &mut [u16], s: Stage) -> Stage
             return sized(s.tasks, n);
         }
     }
-    load_counted(word, values, board, s)
+    load_counted(output, word, values, board, s)
 }

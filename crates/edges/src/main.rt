@@ -10,10 +10,12 @@ mod play;
 mod read;
 mod show;
 
-ghost use Rattle.std.specs.Prelude.{◌≡◌, length};
+ghost use Rattle.std.specs.Prelude.{◌≡◌, ◌≤◌, length, take};
+ghost use Rattle.std.specs.Io.KnownBytes.{Consumes};
 ghost use Rattle.edges.specs.Board.{board_words, Fits};
 
 use load::{Board, Stage};
+use std::io::{Read, Write};
 
 // Whether a line says nothing to the program: it is empty, or a comment.
 fn is_silent(line: &[u8]) -> bool {
@@ -25,7 +27,13 @@ fn is_silent(line: &[u8]) -> bool {
 
 // Does what a line says: it has a name and a colon if it is a case, then a word and numbers, which go to the list.
 // Returns the stage for the next line.
-fn obey(line: &[u8], list: &mut [u16], board: &mut [u16], s: Stage) -> Stage
+fn obey<W: Write>(
+    output: &mut W,
+    line: &[u8],
+    list: &mut [u16],
+    board: &mut [u16],
+    s: Stage,
+) -> Stage
     requires board_len { length board.old ≡ board_words }
     requires fits { Fits s }
     ensures { Fits result }
@@ -39,25 +47,32 @@ fn obey(line: &[u8], list: &mut [u16], board: &mut [u16], s: Stage) -> Stage
     let found = read::values(&line[end..], list);
     let n = found.count;
     if !found.good {
-        show::not_understood(&line[0..colon]);
+        show::not_understood(output, &line[0..colon]);
         return s;
     }
     if colon < line.len() {
-        play::play(&line[0..colon], &line[start..end], &list[0..n], board, s);
+        play::play(
+            output,
+            &line[0..colon],
+            &line[start..end],
+            &list[0..n],
+            board,
+            s,
+        );
         return s;
     }
-    load::load(&line[start..end], &list[0..n], board, s)
+    load::load(output, &line[start..end], &list[0..n], board, s)
 }
 
 // Every line of the text, on tables that have no words before the first.
-fn run(text: &[u8], list: &mut [u16], board: &mut [u16])
+fn run<W: Write>(output: &mut W, text: &[u8], list: &mut [u16], board: &mut [u16])
     requires { length board.old ≡ board_words }
 {
     let mut s = load::sized(0, 0);
     let mut at = 0;
     while at < text.len() {
         let end = read::end_of(text, at, b'\n');
-        s = obey(&text[at..end], list, board, s);
+        s = obey(output, &text[at..end], list, board, s);
         at = end + 1;
     }
 }
@@ -65,14 +80,30 @@ fn run(text: &[u8], list: &mut [u16], board: &mut [u16])
 // The most bytes of the input, and one more.
 const TEXT: usize = 32768;
 
+// Reads until the array is full, the input ends or a read fails. Returns how many bytes were put at its front.
+fn read_full<R: Read>(input: &mut R, text: &mut [u8]) -> usize
+    ensures within { result ≤ length text.new }
+    ensures brought { Consumes (R.remaining input.old) (R.remaining input.new) (take result text.new) }
+{
+    let mut done = 0;
+    while done < text.len() {
+        match input.read(&mut text[done..]) {
+            Ok(0) | Err(_) => return done,
+            Ok(n) => done += n,
+        }
+    }
+    done
+}
+
 // Reads the whole input and runs it.
-fn main() {
+fn main(rt: HostRuntime) {
     let mut text = [0u8; TEXT];
     let mut list = [0u16; Board::REPORT];
     let mut board = [0u16; Board::WORDS];
-    let n = io::read_full(0, &mut text);
+    let n = read_full(&mut rt.stdin(), &mut text);
+    let mut output = rt.stdout();
     if n == TEXT {
-        show::text(b"the input does not fit\n");
+        show::text(&mut output, b"the input does not fit\n");
     }
-    run(&text[0..n], &mut list, &mut board);
+    run(&mut output, &text[0..n], &mut list, &mut board);
 }

@@ -7,18 +7,26 @@ use crate::load::{Board, Stage, fill, freshen, store};
 use crate::read::{Asked, list_of, step_of};
 use crate::show;
 use check::same;
+use std::io::Write;
 use step_kinds::Kind;
 use steps::step;
 use table_access::at;
 
 // Takes the step and prints its answer.
-fn act(tasks: &mut [u16], promises: &mut [u16], report: &mut [u16], asked: Asked, list: &[u16]) {
+fn act<W: Write>(
+    output: &mut W,
+    tasks: &mut [u16],
+    promises: &mut [u16],
+    report: &mut [u16],
+    asked: Asked,
+    list: &[u16],
+) {
     match asked {
         Asked::Step(kind, t, p) => {
-            show::answer(step(tasks, promises, report, kind, t, p, list));
+            show::answer(output, step(tasks, promises, report, kind, t, p, list));
         }
         Asked::Unknown => {
-            show::text(b" not understood");
+            show::text(output, b" not understood");
         }
     }
 }
@@ -38,22 +46,34 @@ fn same_words(words: &[u16], board: &[u16], start: usize) -> bool
 }
 
 // Prints the words under a name where they are no longer those of the board. Returns whether they are.
-fn show_changed(name: &[u8], words: &[u16], board: &[u16], start: usize) -> bool
+fn show_changed<W: Write>(
+    output: &mut W,
+    name: &[u8],
+    words: &[u16],
+    board: &[u16],
+    start: usize,
+) -> bool
     requires { start ≤ report_from }
 {
     if same_words(words, board, start) {
         return true;
     }
-    show::words(name, words);
+    show::words(output, name, words);
     false
 }
 
 // Prints each table and the report that is no longer as on the board, whole; `kept` where none is.
-fn show_changes(tasks: &[u16], promises: &[u16], report: &[u16], board: &[u16]) {
-    let a = show_changed(b", tasks", tasks, board, 0);
-    let b = show_changed(b", promises", promises, board, Board::PROMISES_FROM);
-    let c = show_changed(b", report", report, board, Board::REPORT_FROM);
-    show::end_line(a & b & c);
+fn show_changes<W: Write>(
+    output: &mut W,
+    tasks: &[u16],
+    promises: &[u16],
+    report: &[u16],
+    board: &[u16],
+) {
+    let a = show_changed(output, b", tasks", tasks, board, 0);
+    let b = show_changed(output, b", promises", promises, board, Board::PROMISES_FROM);
+    let c = show_changed(output, b", report", report, board, Board::REPORT_FROM);
+    show::end_line(output, a & b & c);
 }
 
 // In a story the board has the tables and the report as they are now.
@@ -66,7 +86,8 @@ fn keep(story: bool, tasks: &[u16], promises: &[u16], report: &[u16], board: &mu
 }
 
 // Takes the step on a copy of the board, in these three, and prints what it did.
-fn act_told(
+fn act_told<W: Write>(
+    output: &mut W,
     tasks: &mut [u16],
     promises: &mut [u16],
     report: &mut [u16],
@@ -78,13 +99,13 @@ fn act_told(
     fill(tasks, board, 0);
     fill(promises, board, Board::PROMISES_FROM);
     fill(report, board, Board::REPORT_FROM);
-    act(tasks, promises, report, asked, list);
-    show_changes(tasks, promises, report, board);
+    act(output, tasks, promises, report, asked, list);
+    show_changes(output, tasks, promises, report, board);
     keep(story, tasks, promises, report, board);
 }
 
 // Takes the step and prints the rest of its line.
-fn step_told(board: &mut [u16], s: Stage, asked: Asked, list: &[u16])
+fn step_told<W: Write>(output: &mut W, board: &mut [u16], s: Stage, asked: Asked, list: &[u16])
     requires { Fits s }
 {
     let mut tasks = [0u16; Board::TASKS];
@@ -94,6 +115,7 @@ fn step_told(board: &mut [u16], s: Stage, asked: Asked, list: &[u16])
     let n = s.promises;
     let k = s.room;
     act_told(
+        output,
         &mut tasks[0..m],
         &mut promises[0..n],
         &mut report[0..k],
@@ -105,63 +127,76 @@ fn step_told(board: &mut [u16], s: Stage, asked: Asked, list: &[u16])
 }
 
 // Prints the words of both tables on the board, under a name of the first.
-fn show_tables(name: &[u8], board: &[u16], s: Stage)
+fn show_tables<W: Write>(output: &mut W, name: &[u8], board: &[u16], s: Stage)
     requires board_len { length board.now ≡ board_words }
     requires fits { Fits s }
 {
     let m = s.tasks;
     let e = Board::PROMISES_FROM + s.promises;
-    show::words(name, &board[0..m]);
-    show::words(b", promises", &board[Board::PROMISES_FROM..e]);
+    show::words(output, name, &board[0..m]);
+    show::words(output, b", promises", &board[Board::PROMISES_FROM..e]);
 }
 
 // Prints whether the tables on the board are sound.
-fn show_soundness(board: &[u16], s: Stage)
+fn show_soundness<W: Write>(output: &mut W, board: &[u16], s: Stage)
     requires board_len { length board.now ≡ board_words }
     requires fits { Fits s }
 {
     let m = s.tasks;
     let e = Board::PROMISES_FROM + s.promises;
     if table_sound::is_sound(&board[0..m], &board[Board::PROMISES_FROM..e]) {
-        show::text(b" sound,");
+        show::text(output, b" sound,");
     } else {
-        show::text(b" damaged,");
+        show::text(output, b" damaged,");
     }
 }
 
 // Makes the tables on the board fresh, and prints what became of them and what `new 0 0` did.
-fn fresh_told(board: &mut [u16], s: Stage)
+fn fresh_told<W: Write>(output: &mut W, board: &mut [u16], s: Stage)
     requires board_len { length board.old ≡ board_words }
     requires fits { Fits s }
 {
-    show::text(b" fresh");
-    show::number(freshen(board, s));
-    show_tables(b", tasks", board, s);
-    show::text(b", then");
-    step_told(board, s, Asked::Step(Kind::New, 0, 0), &[]);
+    show::text(output, b" fresh");
+    show::number(output, freshen(board, s));
+    show_tables(output, b", tasks", board, s);
+    show::text(output, b", then");
+    step_told(output, board, s, Asked::Step(Kind::New, 0, 0), &[]);
 }
 
 // One line: the name, and what the case did.
-pub fn play(name: &[u8], word: &[u8], values: &[u16], board: &mut [u16], s: Stage)
+pub fn play<W: Write>(
+    output: &mut W,
+    name: &[u8],
+    word: &[u8],
+    values: &[u16],
+    board: &mut [u16],
+    s: Stage,
+)
     requires board_len { length board.old ≡ board_words }
     requires fits { Fits s }
 {
-    show::text(name);
-    show::text(b":");
+    show::text(output, name);
+    show::text(output, b":");
     let n = values.len();
     if (n == 0) & same(word, b"tables") {
-        show_tables(b" tasks", board, s);
-        show::text(b"\n");
+        show_tables(output, b" tasks", board, s);
+        show::text(output, b"\n");
         return;
     }
     if (n == 0) & same(word, b"fresh") {
-        fresh_told(board, s);
+        fresh_told(output, board, s);
         return;
     }
     if (n == 1) & same(word, b"sound") {
-        show_soundness(board, s);
-        step_told(board, s, Asked::Step(Kind::New, at(values, 0), 1), &[]);
+        show_soundness(output, board, s);
+        step_told(
+            output,
+            board,
+            s,
+            Asked::Step(Kind::New, at(values, 0), 1),
+            &[],
+        );
         return;
     }
-    step_told(board, s, step_of(word, values), list_of(values));
+    step_told(output, board, s, step_of(word, values), list_of(values));
 }

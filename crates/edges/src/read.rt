@@ -11,21 +11,21 @@ use text_numbers::{Num, number};
 
 // What a case asks for: a step, by its kind and its first two numbers, or nothing that there is. A step's list stands
 // beside it.
-#[derive(Drop)]
+#[derive(Clone, Copy)]
 pub enum Asked {
     Step(Kind, u16, u16),
     Unknown,
 }
 
 // A word that is repeated.
-#[derive(Drop)]
+#[derive(Clone, Copy)]
 enum Repeat {
     Times(u16, u16),
     Unknown,
 }
 
 // How many words a text gave, and whether all of it was good.
-#[derive(Drop)]
+#[derive(Clone, Copy)]
 pub struct Found {
     pub count: usize,
     pub good: bool,
