@@ -8,9 +8,10 @@ use mathlib.Core.Bool.{true}
 use lib.Dec.{eqb, leb}
 use lib.ListN.{length, take-append-drop}
 use borrow.Author.Tests.{eqb-true, eq-eqb, leb-true, le-leb}
-use Rattle.words.specs.Words.{Form, ready_word, first_wait}
+use Rattle.words.specs.Words.{Form, large, form_of, ready_word, first_wait}
+use Rattle.words.specs.declared.FormName.{FormName}
 use Rattle.words.proofs.BoolLaws.{and_split, and_yes, or_split, or_left, or_right}
-use Rattle.words.proofs.WordLaws.{Sizes, sizes_in_bounds_true, sizes_in_bounds_of}
+use Rattle.words.proofs.WordLaws.{Sizes, sizes_in_bounds_true, sizes_in_bounds_of, within_large}
 use Rattle.rules.specs.Tables.{Tables, tables, with_tasks, with_promises, with_words, part_of, put_back, sizes_fit}
 use Rattle.rules.specs.Tables.{room_of, in_bounds, Live}
 
@@ -53,6 +54,19 @@ pub in_bounds_of : (F : Form) (n : ℕ) (s : Tables) → Bounds F n s → in_bou
 in_bounds_of F n s b =
     let sizes = sizes_fit_of F s (record { some = b.some; tasks = b.tasks; promises = b.promises }) in
     in_bounds_both F n s sizes b.room
+
+-- tables of any form are within the bounds of the large one
+pub fits_large : (form : FormName) (s : Tables) → sizes_fit (form_of form) s ≡ true → sizes_fit large s ≡ true
+unfolding sizes_fit
+fits_large form s e = within_large form (length s.tasks) (length s.promises) e
+
+pub fitting_any : (form : FormName) (s : Tables) → sizes_fit (form_of form) s ≡ true → Fitting large s
+fitting_any form s e = sizes_fit_true large s (fits_large form s e)
+
+pub bounds_any : (form : FormName) (n : ℕ) (s : Tables) → in_bounds (form_of form) n s ≡ true → Bounds large n s
+bounds_any form n s e =
+    let sizes = fits_large form s (in_bounds_sizes (form_of form) n s e) in
+    in_bounds_true large n s (in_bounds_both large n s sizes (in_bounds_room (form_of form) n s e))
 
 -- the tables s' are as long as the tables s
 pub record AsLong (s' s : Tables) : Type 0 where

@@ -9,7 +9,9 @@ use Prim.Native.Nat.{ℕ, ◌+◌, ◌≤◌, ◌<◌}
 use lib.Dec.{ltb, lit≤}
 use lib.ListN.{length, get_or, replicate}
 use Rattle.words.specs.Words.{Form, small, unused_word, ready_word, ended_word, waits_on, unmade_word, set_word}
-use Rattle.words.specs.Words.{first_owned}
+use Rattle.words.specs.Words.{first_owned, form_of}
+use Rattle.words.specs.declared.FormName.{FormName}
+use Rattle.words.proofs.WordLaws.{form_fits}
 use Rattle.words.specs.Words.{owned_by, blamed_on}
 use Rattle.words.specs.Lists.{In}
 use Rattle.rules.specs.Tables.{Tables, tables, sizes_fit, room_of, task_at, promise_at, Live, live_tasks, closed}
@@ -53,6 +55,10 @@ the_proved_set = cases.proved_set_lem
 
 pub small_apart : Apart small
 small_apart = lit≤ tt
+
+-- and so is every form that a name stands for
+pub forms_are_apart : (form : FormName) → Apart (form_of form)
+forms_are_apart form = (form_fits form).words
 
 -- ---- the soundness test is what the paper says of sound tables, however far it follows a chain
 

@@ -11,6 +11,7 @@ use native.Mathlib.Numerals.{add-one}
 use lib.Dec.{eqb, leb, ltb}
 use borrow.Author.Tests.{lt-ltb, le-ltb, le-leb, lt-leb, ne_eqb, eq-eqb, eqb-true, leb-true, ltb-true}
 use lib.ListN.{length, get_or, set, replicate, length-set, length-replicate}
+use Rattle.words.specs.Words.{small}
 use Rattle.words.specs.Words.{unused_word, ready_word, ended_word, first_wait, unmade_word, set_word, first_owned}
 use Rattle.words.specs.Lists.{all_below, is}
 use Rattle.words.proofs.BoolLaws.{and_split, and_false, and_true, or_split, or_left, or_right, true_is_not_false}
@@ -300,3 +301,33 @@ pub every_word_below_at : (n : ℕ) (ps : List ℕ) (q : ℕ) → every_word (be
     → get_or ps q 0 < n
 unfolding below
 every_word_below_at n ps q e h = ltb-true _ _ (all_below_at (length ps) (λ i. ltb (get_or ps i 0) n) e q h)
+
+-- ---- where no word is high enough to blame, it does not matter where the blamed words begin
+
+largest_at : (ps : List ℕ) (most : ℕ) → LargestOf ps most → (q : ℕ) → q < length ps → get_or ps q 0 < suc most
+unfolding below
+largest_at ps most l q z =
+    ltb-true _ _
+    (all_below_at (length ps) (λ k. ltb (get_or ps k 0) (suc most))
+    (l (suc most) (omega arith) ∙ lt-ltb most (suc most) (omega arith)) q z)
+
+unblamed_alike : (B B' : ℕ) (ts ps : List ℕ) (most : ℕ) → LargestOf ps most → most < B → most < B'
+    → all_below (length ps) (promise_passes B (tables ts ps))
+    ≡ all_below (length ps) (promise_passes B' (tables ts ps))
+unfolding promise_passes
+unblamed_alike B B' ts ps most l h h' =
+    all_below_same (length ps) (promise_passes B (tables ts ps)) (promise_passes B' (tables ts ps))
+    (λ q z. let low = largest_at ps most l q z in
+    rw (lt-leb B (get_or ps q 0) (omega arith), lt-leb B' (get_or ps q 0) (omega arith)))
+
+pub small_does_as_well : (B : ℕ) (ts ps : List ℕ) (most : ℕ) → LargestOf ps most → small.base ≤ B
+    → (eqb B small.base || ltb most small.base) ≡ true
+    → all_below (length ps) (promise_passes small.base (tables ts ps))
+    ≡ all_below (length ps) (promise_passes B (tables ts ps))
+small_does_as_well B ts ps most l h e = go (or_split _ _ e)
+  where
+    go : (eqb B small.base ≡ true) ⊎ (ltb most small.base ≡ true)
+        → all_below (length ps) (promise_passes small.base (tables ts ps))
+        ≡ all_below (length ps) (promise_passes B (tables ts ps))
+    go (inl a) = ap (λ (b : ℕ). all_below (length ps) (promise_passes b (tables ts ps))) (sym (eqb-true _ _ a))
+    go (inr a) = let low = ltb-true _ _ a in unblamed_alike small.base B ts ps most l low (omega (arith, low, h))

@@ -4,7 +4,8 @@
 --   unmade_word, set_word, owned_by t,
 --   blamed_on B t            the words of the promise table; B is where the blamed words begin
 --   first_wait, first_owned  the word that waits on promise 0, the word owned by task 0
---   Form, small              where the blamed words begin, and the limits of a session
+--   Form, small, large       where the blamed words begin, and the limits of a session
+--   form_of n                the form that a name stands for
 --   sizes_in_bounds F T P    T and P are within their bounds
 --   room_for T P             the words of a report that has room for every answer
 --   most_records             the most steps of a batch
@@ -13,6 +14,8 @@
 --   longest_line, longest_answer, line_report, most_entries   its limits
 -- Assumes nothing.
 use Rattle.std.specs.Prelude.{ℕ, ◌+◌, ◌*◌, ◌/◌, Bool, ◌&&◌, leb}
+use Rattle.words.specs.declared.FormName.{FormName}
+use Rattle.words.specs.declared.FormName.TheVariants.{Small, Large}
 
 -- ---- "task word"
 
@@ -69,6 +72,16 @@ pub record Form : Type 0 where
 -- "T words (1 to 64)", "P words (0 to 256)", "longer than 2,048 bytes", "an answer line of at least 2,048 bytes"
 abbrev pub small : Form
 small = record { base = 80; most_tasks = 64; most_promises = 256; longest_line = 2048; longest_answer = 2048 }
+
+-- 02, 7/13: "512 tasks and 2,048 promises", "blamed on t becomes 528+t", lines and answers "to 14,336 bytes". No
+-- session has it yet.
+abbrev pub large : Form
+large = record { base = 528; most_tasks = 512; most_promises = 2048; longest_line = 14336; longest_answer = 14336 }
+
+-- 02, 7/13: "The caller says which form it lends."
+abbrev pub form_of : FormName → Form
+form_of Small = small
+form_of Large = large
 
 -- "a task table of T words (1 to 64), a promise table of P words (0 to 256)"
 unfoldable pub sizes_in_bounds : Form → ℕ → ℕ → Bool

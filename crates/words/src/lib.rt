@@ -4,7 +4,7 @@
 
 ghost use Rattle.std.specs.Prelude.{true, ◌≡◌, ◌+◌, ◌<◌};
 ghost use Rattle.words.specs.Words.{unused_word, ready_word, ended_word, waits_on, unmade_word, set_word, owned_by};
-ghost use Rattle.words.specs.Words.{blamed_on, small, sizes_in_bounds, room_for};
+ghost use Rattle.words.specs.Words.{blamed_on, small, form_of, sizes_in_bounds, room_for};
 
 // A word of the task table.
 #[derive(Clone, Copy)]
@@ -121,6 +121,50 @@ impl Limit {
 
     // The largest line number.
     pub const LINES: u32 = 999999;
+
+    // The large form, which no session has yet: where the blamed words begin, the most tasks and the most promises.
+    pub const LARGE_BASE: u16 = 528;
+
+    pub const LARGE_TASKS: usize = 512;
+
+    pub const LARGE_PROMISES: usize = 2048;
+}
+
+// The names of the forms that tables can have. What a name stands for is asked of the three functions below alone.
+#[derive(Clone, Copy)]
+pub enum FormName {
+    Small,
+    Large,
+}
+
+// Where the blamed words begin.
+pub fn base_of(form: FormName) -> u16
+    ensures { result ≡ (form_of form).base }
+{
+    match form {
+        FormName::Small => PromiseWord::FIRST_BLAMED,
+        FormName::Large => Limit::LARGE_BASE,
+    }
+}
+
+// The most tasks.
+pub fn most_tasks(form: FormName) -> usize
+    ensures { result ≡ (form_of form).most_tasks }
+{
+    match form {
+        FormName::Small => Limit::TASKS,
+        FormName::Large => Limit::LARGE_TASKS,
+    }
+}
+
+// The most promises.
+pub fn most_promises(form: FormName) -> usize
+    ensures { result ≡ (form_of form).most_promises }
+{
+    match form {
+        FormName::Small => Limit::PROMISES,
+        FormName::Large => Limit::LARGE_PROMISES,
+    }
 }
 
 // Whether the number of tasks and the number of promises are within their bounds.
