@@ -16,8 +16,70 @@ use Rattle.words.specs.Lists.{all_below}
 use Rattle.words.proofs.BoolLaws.{not_is_false, or_split, true_is_not_false}
 use Rattle.words.proofs.ListLaws.{within_table}
 use Rattle.rules.specs.Tables.{live, Live, waiting}
+use Rattle.std.specs.Prelude.{Result, Ok, Err}
+use Rattle.rules.specs.declared.Refusal.{Refusal}
+use Rattle.rules.specs.declared.Refusal.TheVariants.{OutOfBounds, Damaged, NoTask, NotLive, Waits, NoPromise}
+use Rattle.rules.specs.declared.Refusal.TheVariants.{AlreadyMade, NeverMade, AlreadySet, NotOwner, NoChild, ChildInUse}
+use Rattle.rules.specs.declared.Refusal.TheVariants.{ListedTwice, BadLine, OutOfTurn, BadPart, Blamed}
+use Rattle.rules.specs.Refusals.{refusal_number, refused_by}
 use Rattle.rules.specs.Refusals.{Row, first, earlier, actor_rows, child_rows, new_rows, get_rows, own_rows}
 use Rattle.rules.specs.Refusals.{entry_refusal, differs, first_bad}
+
+-- no refusal has the number 0
+pub number_not_0 : (r : Refusal) → refusal_number r ≢ 0
+number_not_0 OutOfBounds = eqb-false 1 0 refl
+number_not_0 Damaged = eqb-false 2 0 refl
+number_not_0 NoTask = eqb-false 3 0 refl
+number_not_0 NotLive = eqb-false 4 0 refl
+number_not_0 Waits = eqb-false 5 0 refl
+number_not_0 NoPromise = eqb-false 6 0 refl
+number_not_0 AlreadyMade = eqb-false 7 0 refl
+number_not_0 NeverMade = eqb-false 8 0 refl
+number_not_0 AlreadySet = eqb-false 9 0 refl
+number_not_0 NotOwner = eqb-false 10 0 refl
+number_not_0 NoChild = eqb-false 11 0 refl
+number_not_0 ChildInUse = eqb-false 12 0 refl
+number_not_0 ListedTwice = eqb-false 13 0 refl
+number_not_0 BadLine = eqb-false 14 0 refl
+number_not_0 OutOfTurn = eqb-false 15 0 refl
+number_not_0 BadPart = eqb-false 16 0 refl
+number_not_0 Blamed = eqb-false 17 0 refl
+
+-- a number is that of one refusal
+numbered : List Refusal
+numbered =
+    OutOfBounds ∷ Damaged ∷ NoTask ∷ NotLive ∷ Waits ∷ NoPromise ∷ AlreadyMade ∷ NeverMade ∷ AlreadySet ∷ NotOwner
+    ∷ NoChild ∷ ChildInUse ∷ ListedTwice ∷ BadLine ∷ OutOfTurn ∷ BadPart ∷ Blamed ∷ []
+
+is_numbered : (r : Refusal) → r ≡ get_or numbered (refusal_number r - 1) OutOfBounds
+unfolding numbered
+is_numbered OutOfBounds = refl
+is_numbered Damaged = refl
+is_numbered NoTask = refl
+is_numbered NotLive = refl
+is_numbered Waits = refl
+is_numbered NoPromise = refl
+is_numbered AlreadyMade = refl
+is_numbered NeverMade = refl
+is_numbered AlreadySet = refl
+is_numbered NotOwner = refl
+is_numbered NoChild = refl
+is_numbered ChildInUse = refl
+is_numbered ListedTwice = refl
+is_numbered BadLine = refl
+is_numbered OutOfTurn = refl
+is_numbered BadPart = refl
+is_numbered Blamed = refl
+
+pub one_refusal : (r q : Refusal) → refusal_number r ≡ refusal_number q → r ≡ q
+one_refusal r q e = is_numbered r ∙ ap (λ n. get_or numbered (n - 1) OutOfBounds) e ∙ sym (is_numbered q)
+
+-- so a function that answers nothing but whether it refuses has one answer
+pub one_refused : (x y : Result (Unit {0}) Refusal) → refused_by x ≡ refused_by y → x ≡ y
+one_refused (Ok u) (Ok v) e = refl
+one_refused (Ok u) (Err q) e = absurd (number_not_0 q (sym e))
+one_refused (Err r) (Ok u) e = absurd (number_not_0 r e)
+one_refused (Err r) (Err q) e = ap Err (one_refusal r q e)
 
 -- a row that is not the first that applies, and what follows it
 pub first_past : {q : ℕ} (r : ℕ) (b : Bool) (rows : List Row) → r ≢ q → first ((r, b) ∷ rows) ≡ q

@@ -1,5 +1,6 @@
 -- The refusals by number, in their order. Paper: 01, "Refusals by number, in this order"; 02, 3/13.
 --
+--   refusal_number r, refused_by x         the number of a refusal; that by which x is refused, 0 where it is not
 --   Row, first rows                        a number and whether it applies; the first that applies, 0 where none does
 --   earlier a b                            the first of two refusals, where 0 is none
 --   bounds_rows F n s                      1, of all steps; n is the report's length
@@ -15,10 +16,38 @@
 --   fresh_rows F T P, fresh_refusal F T P  1, of making tables fresh: by their sizes alone
 -- Assumes nothing.
 use Rattle.std.specs.Prelude.{ℕ, zero, suc, List, [], ◌∷◌, ◌++◌, Bool, cond, not, eqb, leb, ltb, length, get_or}
+use Rattle.std.specs.Prelude.{Result, Ok, Err}
+use Rattle.rules.specs.declared.Refusal.{Refusal}
+use Rattle.rules.specs.declared.Refusal.TheVariants.{OutOfBounds, Damaged, NoTask, NotLive, Waits, NoPromise}
+use Rattle.rules.specs.declared.Refusal.TheVariants.{AlreadyMade, NeverMade, AlreadySet, NotOwner, NoChild, ChildInUse}
+use Rattle.rules.specs.declared.Refusal.TheVariants.{ListedTwice, BadLine, OutOfTurn, BadPart, Blamed}
 use Rattle.words.specs.Words.{Form, sizes_in_bounds, unused_word, unmade_word, set_word, owned_by}
 use Rattle.words.specs.Lists.{all_below}
 use Rattle.rules.specs.Tables.{Tables, live, waiting, in_bounds}
 use Rattle.rules.specs.Sound.{sound_test}
+
+abbrev pub refusal_number : Refusal → ℕ
+refusal_number OutOfBounds = 1
+refusal_number Damaged = 2
+refusal_number NoTask = 3
+refusal_number NotLive = 4
+refusal_number Waits = 5
+refusal_number NoPromise = 6
+refusal_number AlreadyMade = 7
+refusal_number NeverMade = 8
+refusal_number AlreadySet = 9
+refusal_number NotOwner = 10
+refusal_number NoChild = 11
+refusal_number ChildInUse = 12
+refusal_number ListedTwice = 13
+refusal_number BadLine = 14
+refusal_number OutOfTurn = 15
+refusal_number BadPart = 16
+refusal_number Blamed = 17
+
+abbrev pub refused_by : {A : Type 0} → Result A Refusal → ℕ
+refused_by (Ok x) = 0
+refused_by (Err r) = refusal_number r
 
 abbrev pub Row : Type 0
 Row = ℕ × Bool

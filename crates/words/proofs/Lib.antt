@@ -4,3 +4,4 @@ pub mod ListLaws
 pub mod WordLaws
 pub mod LoopLaws
 pub mod Outcomes
+pub mod StateLaws

@@ -5,6 +5,7 @@
 ghost use Rattle.std.specs.Prelude.{true, ◌≡◌, ◌+◌, ◌<◌};
 ghost use Rattle.words.specs.Words.{unused_word, ready_word, ended_word, waits_on, unmade_word, set_word, owned_by};
 ghost use Rattle.words.specs.Words.{blamed_on, small, form_of, sizes_in_bounds, room_for};
+ghost use Rattle.words.specs.States.{ReadsTask, ReadsPromise};
 
 // A word of the task table.
 #[derive(Clone, Copy)]
@@ -87,6 +88,54 @@ impl PromiseWord {
         ensures { result ≡ blamed_on small.base t }
     {
         PromiseWord::FIRST_BLAMED + t
+    }
+}
+
+// What a word of the task table says. `Damaged` is a word that no task has.
+#[derive(Clone, Copy, PartialEq, Eq)]
+pub enum TaskState {
+    Unused,
+    Ready,
+    Ended,
+    Waits(u16),
+    Damaged,
+}
+
+impl From<u16> for TaskState {
+    ghost from_gives = { ReadsTask };
+
+    fn from(word: u16) -> TaskState {
+        match word {
+            TaskWord::UNUSED => TaskState::Unused,
+            TaskWord::READY => TaskState::Ready,
+            TaskWord::ENDED => TaskState::Ended,
+            TaskWord::FIRST_WAIT.. => TaskState::Waits(word - TaskWord::FIRST_WAIT),
+            _ => TaskState::Damaged,
+        }
+    }
+}
+
+// What a word of the promise table says. `Damaged` is a word that no promise has.
+#[derive(Clone, Copy, PartialEq, Eq)]
+pub enum PromiseState {
+    Unmade,
+    Set,
+    Owned(u16),
+    Blamed(u16),
+    Damaged,
+}
+
+impl From<u16> for PromiseState {
+    ghost from_gives = { ReadsPromise };
+
+    fn from(word: u16) -> PromiseState {
+        match word {
+            PromiseWord::UNMADE => PromiseState::Unmade,
+            PromiseWord::SET => PromiseState::Set,
+            PromiseWord::FIRST_BLAMED.. => PromiseState::Blamed(word - PromiseWord::FIRST_BLAMED),
+            PromiseWord::FIRST_OWNED.. => PromiseState::Owned(word - PromiseWord::FIRST_OWNED),
+            _ => PromiseState::Damaged,
+        }
     }
 }
 
