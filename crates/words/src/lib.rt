@@ -25,19 +25,19 @@ impl TaskWord {
     pub fn unused() -> u16
         ensures { result ≡ unused_word }
     {
-        TaskWord::UNUSED
+        Self::UNUSED
     }
 
     pub fn ready() -> u16
         ensures { result ≡ ready_word }
     {
-        TaskWord::READY
+        Self::READY
     }
 
     pub fn ended() -> u16
         ensures { result ≡ ended_word }
     {
-        TaskWord::ENDED
+        Self::ENDED
     }
 
     // Every promise of a session has such a word; the `requires` keeps it within 16 bits.
@@ -67,13 +67,13 @@ impl PromiseWord {
     pub fn unmade() -> u16
         ensures { result ≡ unmade_word }
     {
-        PromiseWord::UNMADE
+        Self::UNMADE
     }
 
     pub fn set() -> u16
         ensures { result ≡ set_word }
     {
-        PromiseWord::SET
+        Self::SET
     }
 
     pub fn owned_by(t: u16) -> u16
@@ -179,40 +179,39 @@ impl Limit {
     pub const LARGE_PROMISES: usize = 2048;
 }
 
-// The names of the forms that tables can have. What a name stands for is asked of the three functions below alone.
-#[derive(Clone, Copy)]
+// The names of the forms that tables can have. What a name stands for is asked of `limits` alone.
+#[derive(Clone, Copy, PartialEq, Eq)]
 pub enum FormName {
     Small,
     Large,
 }
 
-// Where the blamed words begin.
-pub fn base_of(form: FormName) -> u16
-    ensures { result ≡ (form_of form).base }
-{
-    match form {
-        FormName::Small => PromiseWord::FIRST_BLAMED,
-        FormName::Large => Limit::LARGE_BASE,
-    }
+// The limits of a form: where the blamed words begin, the most tasks and the most promises.
+#[derive(Clone, Copy)]
+pub struct FormLimits {
+    pub base: u16,
+    pub most_tasks: usize,
+    pub most_promises: usize,
 }
 
-// The most tasks.
-pub fn most_tasks(form: FormName) -> usize
-    ensures { result ≡ (form_of form).most_tasks }
-{
-    match form {
-        FormName::Small => Limit::TASKS,
-        FormName::Large => Limit::LARGE_TASKS,
-    }
-}
-
-// The most promises.
-pub fn most_promises(form: FormName) -> usize
-    ensures { result ≡ (form_of form).most_promises }
-{
-    match form {
-        FormName::Small => Limit::PROMISES,
-        FormName::Large => Limit::LARGE_PROMISES,
+impl FormName {
+    pub fn limits(self) -> FormLimits
+        ensures base { result.base ≡ (form_of self).base }
+        ensures most_tasks { result.most_tasks ≡ (form_of self).most_tasks }
+        ensures most_promises { result.most_promises ≡ (form_of self).most_promises }
+    {
+        match self {
+            FormName::Small => FormLimits {
+                base: PromiseWord::FIRST_BLAMED,
+                most_tasks: Limit::TASKS,
+                most_promises: Limit::PROMISES,
+            },
+            FormName::Large => FormLimits {
+                base: Limit::LARGE_BASE,
+                most_tasks: Limit::LARGE_TASKS,
+                most_promises: Limit::LARGE_PROMISES,
+            },
+        }
     }
 }
 
@@ -220,13 +219,7 @@ pub fn most_promises(form: FormName) -> usize
 pub fn sizes_in_bounds(tasks: usize, promises: usize) -> bool
     ensures { result ≡ sizes_in_bounds small tasks promises }
 {
-    if tasks < 1 {
-        return false;
-    }
-    if Limit::TASKS < tasks {
-        return false;
-    }
-    promises <= Limit::PROMISES
+    1 <= tasks && tasks <= Limit::TASKS && promises <= Limit::PROMISES
 }
 
 // The words of a report that has room for every answer.
