@@ -10,7 +10,8 @@ use borrow.Author.Tests.{eqb-true, eqb-false}
 use lib.ListN.{get_or}
 use Rattle.words.specs.Words.{Form}
 use Rattle.rules.specs.Tables.{Tables}
-use Rattle.rules.specs.Answers.{laid, number_of, values_of, accepted, answer_of, refused_with, refused_at_with}
+use Rattle.rules.specs.Answers.{laid, number_of, value_of, values_of, accepted, answer_of}
+use Rattle.rules.specs.Answers.{refused_with, refused_at_with}
 use Rattle.rules.specs.Steps.{Step, step_new, step_set, step_get, step_async, step_end, step_refused}
 use Rattle.rules.specs.Demands.{Refusal, plain, placed, blamed, blamed_at}
 use Rattle.rules.specs.declared.Answer.{Answer}
@@ -23,7 +24,7 @@ pub record Accepted (a : Answer) : Type 0 where
   pub from_100 : 100 ≤ number_of a
   pub low : number_of a < 1000
   pub told : answer_of (number_of a) (values_of a) ≡ a
-  pub read : get_or (accepted (laid a).first.value (laid a).second.value) (number_of a - 100) Opened ≡ a
+  pub read : get_or (accepted (value_of (laid a).first) (value_of (laid a).second)) (number_of a - 100) Opened ≡ a
   pub accepts : (laid a).refuses ≡ false
 
 pub accepted_or_refused : (a : Answer) → Accepted a ⊎ Refusal a

@@ -15,7 +15,7 @@ use Rattle.words.proofs.BoolLaws.{not_is_true}
 use Rattle.words.proofs.ListLaws.{in_passes, is_in}
 use Rattle.rules.specs.Tables.{Tables}
 use Rattle.rules.specs.Answers.{laid, number_of, values_of, refusal_of, accepted, answer_of, SameWords, by_number}
-use Rattle.rules.specs.Answers.{refused_with, refused_at_with}
+use Rattle.rules.specs.Answers.{refused_with, refused_at_with, value_of}
 use Rattle.rules.specs.Steps.{Step, step_new, step_set, step_get, step_async, step_end, step_refused, step}
 use Rattle.rules.specs.Demands.{paper_rows, paper_entry_rows, BadPlace, Refusal, HowRefused, by_row, for_entry}
 use Rattle.rules.specs.declared.Answer.{Answer}
@@ -66,7 +66,7 @@ abbrev read_back : Step → ℕ → ℕ → ℕ → Answer
 read_back x r v w = cond (ltb r 100) (refusal_back x r v w) (get_or (accepted v w) (r - 100) Opened)
 
 abbrev ReadBack : Step → Answer → Type 0
-ReadBack x a = read_back x (number_of a) (laid a).first.value (laid a).second.value ≡ a
+ReadBack x a = read_back x (number_of a) (value_of (laid a).first) (value_of (laid a).second) ≡ a
 
 accepted_read : (x : Step) {a : Answer} → Accepted a → ReadBack x a
 accepted_read x {a} c = rw (le-ltb (number_of a) 100 c.from_100) c.read

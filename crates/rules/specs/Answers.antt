@@ -4,6 +4,7 @@
 --                          many words of the report follow it. All else is read off it: both forms of an answer, in
 --                          four words and as a line
 --   number_of a            a refusal's number; for any other answer a number of ours, from 100 on
+--   value_of p, words_of p what stands in one of the four words, and how many words of the report follow it; 0 for none
 --   values_of a            the counts and numbers that the answer carries, in the order of the answer line
 --   word_count a           how many words of the report are the answer's own
 --   answer_of n vs         the answer that a number and values tell
@@ -13,30 +14,28 @@
 --   refused_at_with b i r  the refusal by r of the list entry at the place i, where b is the task to blame
 -- Assumes nothing.
 use Rattle.std.specs.Prelude.{ℕ, ◌+◌, ◌*◌, ◌-◌, ◌≡◌, List, [], ◌∷◌, ◌++◌, Bool, true, false, cond, eqb, ltb, get_or}
+use Rattle.std.specs.Prelude.{Option, Some, None}
 use Rattle.rules.specs.declared.Part.{Part}
 use Rattle.rules.specs.declared.Layout.{Layout}
 use Rattle.rules.specs.declared.Answer.{Answer}
 use Rattle.rules.specs.declared.Answer.TheVariants.{Opened, Made, Set, Value, Blamed, Waits, Cycle, Started}
 use Rattle.rules.specs.declared.Answer.TheVariants.{Ended, Refused, RefusedAt, RefusedBlamed, RefusedBlamedAt}
 
-abbrev pub none : Part
-none = record { told = false; value = 0; words = 0 }
-
 -- a value that k words of the report follow
-abbrev pub part : ℕ → ℕ → Part
-part v k = record { told = true; value = v; words = k }
+abbrev pub part : ℕ → ℕ → Option Part
+part v k = Some (record { value = v; words = k })
 
-abbrev pub layout : Bool → ℕ → Part → Part → Part → Layout
+abbrev pub layout : Bool → ℕ → Option Part → Option Part → Option Part → Layout
 layout b n p q r = record { refuses = b; number = n; first = p; second = q; third = r }
 
 abbrev pub with_none : Bool → ℕ → Layout
-with_none b n = layout b n none none none
+with_none b n = layout b n None None None
 
 abbrev pub with_one : Bool → ℕ → ℕ → ℕ → Layout
-with_one b n v k = layout b n (part v k) none none
+with_one b n v k = layout b n (part v k) None None
 
 abbrev pub with_two : Bool → ℕ → ℕ → ℕ → ℕ → ℕ → Layout
-with_two b n v k w l = layout b n (part v k) (part w l) none
+with_two b n v k w l = layout b n (part v k) (part w l) None
 
 unfoldable pub laid : Answer → Layout
 laid Opened = with_none false 100
@@ -56,14 +55,24 @@ laid (RefusedBlamedAt i b) = with_two true 17 i 0 b 0
 abbrev pub number_of : Answer → ℕ
 number_of a = (laid a).number
 
-abbrev pub value_in : Part → List ℕ
-value_in p = cond p.told (p.value ∷ []) []
+-- 0 where there is no value
+abbrev pub value_of : Option Part → ℕ
+value_of None = 0
+value_of (Some p) = p.value
+
+abbrev pub words_of : Option Part → ℕ
+words_of None = 0
+words_of (Some p) = p.words
+
+abbrev pub value_in : Option Part → List ℕ
+value_in None = []
+value_in (Some p) = p.value ∷ []
 
 abbrev pub values_of : Answer → List ℕ
 values_of a = value_in (laid a).first ++ value_in (laid a).second ++ value_in (laid a).third
 
 abbrev pub word_count : Answer → ℕ
-word_count a = (laid a).first.words + (laid a).second.words + (laid a).third.words
+word_count a = words_of (laid a).first + words_of (laid a).second + words_of (laid a).third
 
 -- the answer that a number and values tell
 unfoldable pub refusal_of : ℕ → List ℕ → Answer
@@ -81,9 +90,9 @@ answer_of n vs = cond (ltb n 100) (refusal_of n vs) (get_or (accepted (get_or vs
 -- the four words of two answers, for callers that know numbers alone; a value that is not there is 0
 pub record SameWords (a a' : Answer) : Type 0 where
   pub number : (laid a).number ≡ (laid a').number
-  pub first : (laid a).first.value ≡ (laid a').first.value
-  pub second : (laid a).second.value ≡ (laid a').second.value
-  pub third : (laid a).third.value ≡ (laid a').third.value
+  pub first : value_of (laid a).first ≡ value_of (laid a').first
+  pub second : value_of (laid a).second ≡ value_of (laid a').second
+  pub third : value_of (laid a).third ≡ value_of (laid a').third
 
 -- by its number alone
 abbrev pub by_number : ℕ → Answer

@@ -9,7 +9,8 @@ ghost use Rattle.rules.specs.Answers.{by_number};
 // An answer; the counts and numbers that belong to it are in its cases, the lists are in the report. `Opened` is the
 // answer to a line that opens a session, all others are given by the steps. The place of a refusal is where it lies: in
 // the list of an async, or, with refusal 14, the column in a bad line. The last two cases are refusal 17, which tells
-// the blamed task.
+// the blamed task. A refusal has its number here and no name: the theorems of specs/Demands.antt speak of the answer
+// that refuses by any number.
 #[derive(Clone, Copy)]
 pub enum Answer {
     Opened,
@@ -83,20 +84,20 @@ impl From<Refusal> for Answer {
     }
 }
 
-// A value of an answer, and how many words of the report follow it; or none, of zeros.
+// A value of an answer, and how many words of the report follow it.
 #[derive(Clone, Copy)]
 pub struct Part {
-    pub told: bool,
     pub value: u16,
     pub words: u32,
 }
 
-// The layout of an answer: whether it refuses, its number, and its values. All forms of an answer are read off it.
+// The layout of an answer: whether it refuses, its number, and its values. All forms of an answer are read off it. It
+// is the definition `laid`, field by field, so whether it refuses is a field.
 #[derive(Clone, Copy)]
 pub struct Layout {
     pub refuses: bool,
     pub number: u16,
-    pub first: Part,
-    pub second: Part,
-    pub third: Part,
+    pub first: Option<Part>,
+    pub second: Option<Part>,
+    pub third: Option<Part>,
 }

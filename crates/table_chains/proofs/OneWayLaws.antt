@@ -3,10 +3,15 @@
 use Prim.Native.Nat.{ℕ, zero, suc, ◌+◌, ◌-◌, ◌≤◌, ◌<◌}
 use mathlib.Core.Path.{◌≡◌, sym, ap, subst, ◌∙◌}
 use mathlib.Core.Logic.{◌⊎◌, inl, inr}
-use mathlib.Core.Bool.{true}
+use mathlib.Core.Bool.{Bool, true, false}
 use native.Mathlib.Omega.{arith}
-use native.Mathlib.Decide.{ℕ_discrete, dec_lt}
+use native.Mathlib.Nat.{zero-add}
+use native.Mathlib.Decide.{dec_lt}
 use lib.ListN.{length}
+use Rattle.std.specs.Bool.{MatchBool}
+use Rattle.std.specs.List.{AllWithin, range_with_len}
+use Rattle.std.proofs.lemmas.List.FromFn.{length-range_with_len, get_or-range_with_len}
+use Rattle.words.proofs.BoolLaws.{true_is_not_false}
 use Rattle.words.specs.Words.{ready_word, first_wait}
 use Rattle.words.specs.Lists.{all_below}
 use Rattle.words.proofs.ListLaws.{all_below_make}
@@ -92,11 +97,12 @@ module _ (s : Tables) where
         lower = l.most;
       }
 
--- ---- the loop: what holds of each of the first i tasks
+-- ---- what `all` says of the numbers below n, where it answers r
 
-pub one_more : (P : ℕ → Type 0) {i : ℕ} → ((u : ℕ) → u < i → P u) → P i → (u : ℕ) → u < i + 1 → P u
-one_more P {i} h p u b = go (ℕ_discrete u i)
-  where
-    go : Dec (u ≡ i) → P u
-    go (yes e) = subst P (sym e) p
-    go (no n) = h u (omega arith)
+pub each_below : (n : ℕ) (P : ℕ → Type 0) (Q : Type 0) (r : Bool)
+    → MatchBool r (AllWithin P (range_with_len 0 n) 0 (length (range_with_len 0 n))) Q → r ≡ true
+    → (v : ℕ) → v < n → P v
+each_below n P Q true h e v b =
+    let within : v < length (range_with_len 0 n) = omega (arith, length-range_with_len 0 n) in
+    subst P (get_or-range_with_len 0 n v 0 b ∙ zero-add v) (h v 0 (omega arith) within)
+each_below n P Q false h e v b = true_is_not_false (sym e)

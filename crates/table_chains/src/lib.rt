@@ -5,10 +5,11 @@
 ghost use Rattle.std.specs.Prelude.{◌≡◌, true, ◌<◌, length};
 ghost use Rattle.words.specs.Words.{small};
 ghost use Rattle.words.specs.Lists.{all_below};
-ghost use Rattle.rules.specs.Tables.{tables, sizes_fit, live as live_word};
+ghost use Rattle.rules.specs.Tables.{tables, sizes_fit};
 ghost use Rattle.rules.specs.Sound.{comes_in_time};
 ghost use Rattle.table_chains.specs.Marks.{Marked, MarksFor, chain_passes, LeadsWithin};
 
+use std::ops::Range;
 use table_access::at;
 use table_hops::{Next, hop};
 use words::{Limit, TaskWord};
@@ -22,26 +23,17 @@ fn mark_way(tasks: &[u16], promises: &[u16], marks: &mut [u16], v: usize) -> boo
 {
     let me = (v + 1) as u16;
     let mut u = v;
-    let mut left = tasks.len();
-    while 0 < left {
-        let m = marks[u];
-        if (m != 0) & (m != me) {
+    for _ in 0..tasks.len() {
+        let mark = marks[u];
+        if mark != 0 && mark != me {
             return true;
         }
         marks[u] = me;
-        let h = hop(tasks, promises, u);
-        match h {
-            Next::Ready => {
-                return true;
-            }
-            Next::Lost => {
-                return false;
-            }
-            Next::To(x) => {
-                u = x;
-            }
+        match hop(tasks, promises, u) {
+            Next::Ready => return true,
+            Next::Lost => return false,
+            Next::To(x) => u = x,
         }
-        left -= 1;
     }
     false
 }
@@ -52,10 +44,7 @@ fn chain_passes(tasks: &[u16], promises: &[u16], marks: &mut [u16], v: usize) ->
     ensures { (result ≡ chain_passes (tables tasks.now promises.now) v)
         × (result ≡ true → Marked (tables tasks.now promises.now) marks.new) }
 {
-    if tasks[v] < TaskWord::FIRST_WAIT {
-        return true;
-    }
-    mark_way(tasks, promises, marks, v)
+    tasks[v] < TaskWord::FIRST_WAIT || mark_way(tasks, promises, marks, v)
 }
 
 // Whether the chain of every waiting task comes to a ready task, from the last task to the first; `marks` has a word
@@ -65,9 +54,7 @@ fn chains_marked(tasks: &[u16], promises: &[u16], marks: &mut [u16]) -> bool
     ensures { result ≡ all_below (length tasks.now)
         (chain_passes (tables tasks.now promises.now)) }
 {
-    let mut v = tasks.len();
-    while 0 < v {
-        v -= 1;
+    for v in (0..tasks.len()).rev() {
         if !chain_passes(tasks, promises, marks, v) {
             return false;
         }
@@ -85,68 +72,30 @@ fn marked_pass(tasks: &[u16], promises: &[u16]) -> bool
     chains_marked(tasks, promises, &mut marks)
 }
 
-fn live(w: u16) -> bool
-    ensures { result ≡ live_word w }
-{
-    (w == TaskWord::READY) | (TaskWord::FIRST_WAIT <= w)
-}
-
-// Whether task `v` does not wait, or a hop from it leads to a live task with a number from `low` on and below `high`.
-fn leads_within(tasks: &[u16], promises: &[u16], v: usize, low: usize, high: usize) -> bool
-    ensures { result ≡ true → LeadsWithin (tables tasks.now promises.now) low high v }
+// Whether task `v` does not wait, or a hop from it leads to a live task with a number among `owners`.
+fn leads_within(tasks: &[u16], promises: &[u16], v: usize, owners: Range<usize>) -> bool
+    ensures { result ≡ true
+        → LeadsWithin (tables tasks.now promises.now) owners.start owners.end v }
 {
     if at(tasks, v) < TaskWord::FIRST_WAIT {
         return true;
     }
-    let h = hop(tasks, promises, v);
-    match h {
-        Next::Ready => false,
-        Next::Lost => false,
-        Next::To(x) => (low <= x) & (x < high) & live(at(tasks, x)),
+    match hop(tasks, promises, v) {
+        Next::Ready | Next::Lost => false,
+        Next::To(x) => owners.contains(&x)
+            && matches!(at(tasks, x), TaskWord::READY | TaskWord::FIRST_WAIT..),
     }
 }
 
-// Whether every link leads to a task with a higher number: so no chain comes back, and each comes to a ready task.
-fn all_up(tasks: &[u16], promises: &[u16]) -> bool
-    ensures { result ≡ true → all_below (length tasks.now)
-        (chain_passes (tables tasks.now promises.now)) ≡ true }
-{
-    let mut v = 0;
-    while v < tasks.len() {
-        if !leads_within(tasks, promises, v, v + 1, tasks.len()) {
-            return false;
-        }
-        v += 1;
-    }
-    true
-}
-
-// The same for lower numbers.
-fn all_down(tasks: &[u16], promises: &[u16]) -> bool
-    ensures { result ≡ true → all_below (length tasks.now)
-        (chain_passes (tables tasks.now promises.now)) ≡ true }
-{
-    let mut v = 0;
-    while v < tasks.len() {
-        if !leads_within(tasks, promises, v, 0, v) {
-            return false;
-        }
-        v += 1;
-    }
-    true
-}
-
-// Whether the chain of every waiting task comes to a ready task. Where all links lead one way no marks are needed.
+// Whether the chain of every waiting task comes to a ready task. Where all links lead to higher numbers, or all to
+// lower ones, no chain comes back, and no marks are needed.
 pub fn chains_pass(tasks: &[u16], promises: &[u16]) -> bool
     requires { sizes_fit small (tables tasks.now promises.now) ≡ true }
     ensures { result ≡ all_below (length tasks.now)
         (chain_passes (tables tasks.now promises.now)) }
 {
-    if all_up(tasks, promises) {
-        return true;
-    }
-    if all_down(tasks, promises) {
-        return true;
-    }
-    marked_pass(tasks, promises)
+    let count = tasks.len();
+    (0..count).all(|v| leads_within(tasks, promises, v, v + 1..count))
+        || (0..count).all(|v| leads_within(tasks, promises, v, 0..v))
+        || marked_pass(tasks, promises)
 }

@@ -7,9 +7,10 @@ ghost use Rattle.rules.specs.Sound.{hop as hop_of, hop_owner};
 ghost use Rattle.table_hops.specs.Hops.{hop_read};
 
 use table_access::at;
-use words::{PromiseWord, TaskWord};
+use words::{PromiseWord, TaskState};
 
-// Where a hop from a task leads: it is ready, or it leads nowhere, or to the owner of what it awaits.
+// Where a hop from a task leads: it is ready, or it leads nowhere, or to the owner of what it awaits. Three answers, so
+// no `Option`: it is `Hop` of the rules, case by case.
 #[derive(Clone, Copy)]
 pub enum Next {
     Ready,
@@ -17,31 +18,25 @@ pub enum Next {
     To(usize),
 }
 
-// The owner that a promise's word names, if it names one of `count` tasks.
+// The owner that a promise's word names, if it names one of `count` tasks. The word is not read as a `PromiseState`:
+// the contract holds for any number of tasks, and that reading is of at most 64.
 fn hop_owner(count: usize, w: u16) -> Next
     ensures { hop_read result ≡ hop_owner count w }
 {
-    if w < PromiseWord::FIRST_OWNED {
-        return Next::Lost;
+    match w.checked_sub(PromiseWord::FIRST_OWNED) {
+        Some(owner) if usize::from(owner) < count => Next::To(usize::from(owner)),
+        _ => Next::Lost,
     }
-    let u = (w - PromiseWord::FIRST_OWNED) as usize;
-    if u < count {
-        return Next::To(u);
-    }
-    Next::Lost
 }
 
 // From task `v` to the owner of what it awaits.
+#[tactic(auto, unfolding(rules::specs::Sound::hop))]
 pub fn hop(tasks: &[u16], promises: &[u16], v: usize) -> Next
     ensures { hop_read result ≡ hop_of (length tasks.now) (view_of tasks.now promises.now) v }
 {
-    let w = at(tasks, v);
-    if w == TaskWord::READY {
-        return Next::Ready;
+    match TaskState::from(at(tasks, v)) {
+        TaskState::Ready => Next::Ready,
+        TaskState::Waits(p) => hop_owner(tasks.len(), at(promises, usize::from(p))),
+        TaskState::Unused | TaskState::Ended | TaskState::Damaged => Next::Lost,
     }
-    if w < TaskWord::FIRST_WAIT {
-        return Next::Lost;
-    }
-    let p = (w - TaskWord::FIRST_WAIT) as usize;
-    hop_owner(tasks.len(), at(promises, p))
 }

@@ -56,20 +56,20 @@ module _ (B : ℕ) (s : Tables) where
       (λ v. task_word_passes (length s.promises) (task_at s v) && chain_passes s v) (λ v z. both v)
       ∙ all_below_and (length s.tasks) (λ v. task_word_passes (length s.promises) (task_at s v)) (chain_passes s)
 
-  pub bad_task_word : words_of_tasks ≡ false → false ≡ sound_test B s
+  bad_task_word : words_of_tasks ≡ false → false ≡ sound_test B s
   unfolding sound_test
   bad_task_word e = rw (tasks_pass, e)
 
-  pub bad_promise_word : words_of_promises ≡ false → false ≡ sound_test B s
+  bad_promise_word : words_of_promises ≡ false → false ≡ sound_test B s
   unfolding sound_test
   bad_promise_word e = rw e (sym (and_false (all_below (length s.tasks) (task_passes s))))
 
   module _ (t : words_of_tasks ≡ true) (p : words_of_promises ≡ true) where
-    pub chains_decide : all_chains ≡ sound_test B s
+    chains_decide : all_chains ≡ sound_test B s
     unfolding sound_test
     chains_decide = rw (tasks_pass, t, p) (sym (and_true all_chains))
 
-    pub no_chains : every_word idle s.tasks ≡ true → true ≡ sound_test B s
+    no_chains : every_word idle s.tasks ≡ true → true ≡ sound_test B s
     unfolding chain_passes idle
     no_chains e =
         sym
@@ -77,3 +77,14 @@ module _ (B : ℕ) (s : Tables) where
         (λ v z. let idle_at = ltb-true _ _ (all_below_at (length s.tasks) (λ i. ltb (task_at s i) first_wait) e v z) in
         rw (lt-leb first_wait (task_at s v) idle_at)))
         ∙ chains_decide
+
+  -- chains are asked for only where somebody waits
+  pub test_in_turn : sound_test B s ≡ (words_of_tasks && words_of_promises && (every_word idle s.tasks || all_chains))
+  test_in_turn = go words_of_tasks refl words_of_promises refl (every_word idle s.tasks) refl
+    where
+      go : (a : Bool) → words_of_tasks ≡ a → (b : Bool) → words_of_promises ≡ b → (i : Bool)
+          → every_word idle s.tasks ≡ i → sound_test B s ≡ (a && b && (i || all_chains))
+      go false e b f i g = sym (bad_task_word e)
+      go true e false f i g = sym (bad_promise_word f)
+      go true e true f true g = sym (no_chains e f g)
+      go true e true f false g = sym (chains_decide e f)

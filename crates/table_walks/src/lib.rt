@@ -13,7 +13,7 @@ use table_hops::{Next, hop};
 use words::{PromiseWord, TaskWord};
 
 // Where the way led, with the number of owners reached: back to the asker, or to another ready task. In damaged
-// tables it may be lost.
+// tables it may be lost. Three answers, so no `Option`: each is one of the rules' `Found`.
 #[derive(Clone, Copy)]
 pub enum Trail {
     Astray,
@@ -27,26 +27,15 @@ pub fn follow(tasks: &[u16], promises: &[u16], t: usize, from: usize) -> Trail
         (view_of tasks.now promises.now) t from 1 }
 {
     let mut u = from;
-    let mut k: usize = 1;
-    let mut left = tasks.len();
-    while 0 < left {
+    for k in 1..=tasks.len() {
         if u == t {
             return Trail::Back(k);
         }
-        let h = hop(tasks, promises, u);
-        match h {
-            Next::Ready => {
-                return Trail::Free(k);
-            }
-            Next::Lost => {
-                return Trail::Astray;
-            }
-            Next::To(x) => {
-                u = x;
-            }
+        match hop(tasks, promises, u) {
+            Next::Ready => return Trail::Free(k),
+            Next::Lost => return Trail::Astray,
+            Next::To(x) => u = x,
         }
-        k += 1;
-        left -= 1;
     }
     Trail::Astray
 }
@@ -57,16 +46,12 @@ pub fn write_pairs(tasks: &[u16], promises: &[u16], report: &mut [u16], k: u16, 
     ensures { report.new ≡ sets report.old 0
         (pairs k (view_of tasks.now promises.now) t p) }
 {
-    let mut left = k;
     let mut a = t;
     let mut q = p;
-    let mut i: usize = 0;
-    while 0 < left {
-        put(report, i, a);
-        put(report, i + 1, q);
+    for i in 0..usize::from(k) {
+        put(report, 2 * i, a);
+        put(report, 2 * i + 1, q);
         a = number_at(promises, PromiseWord::FIRST_OWNED, q);
         q = number_at(tasks, TaskWord::FIRST_WAIT, a);
-        i += 2;
-        left -= 1;
     }
 }

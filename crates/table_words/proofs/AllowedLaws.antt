@@ -1,50 +1,27 @@
--- Laws of specs/Allowed.antt: a task's word by ranges, what a loop that notes has after i turns, and what the filled
--- look-up table says. Assumes nothing.
-use Prim.Native.Nat.{ℕ, suc, ◌+◌, ◌-◌, ◌≤◌, ◌<◌}
+-- Laws of specs/Allowed.antt: what a loop that notes has after i turns, the largest word, and what the filled look-up
+-- table says. Assumes nothing.
+use Prim.Native.Nat.{ℕ, zero, suc, ◌+◌, ◌-◌, ◌≤◌, ◌<◌, max}
 use mathlib.Core.Path.{◌≡◌, refl, sym, ap, subst, ◌∙◌}
 use mathlib.Core.Logic.{◌≢◌, ◌⊎◌, inl, inr}
-use mathlib.Core.List.{List, []}
+use mathlib.Core.List.{List, [], ◌∷◌}
 use mathlib.Core.Bool.{Bool, true, false, cond, ◌&&◌, ◌||◌}
 use native.Mathlib.Omega.{arith}
 use native.Mathlib.Decide.{ℕ_discrete, dec_lt}
-use native.Mathlib.Numerals.{add-one}
 use lib.Dec.{eqb, leb, ltb}
 use borrow.Author.Tests.{lt-ltb, le-ltb, le-leb, lt-leb, ne_eqb, eq-eqb, eqb-true, leb-true, ltb-true}
 use lib.ListN.{length, get_or, set, replicate, length-set, length-replicate}
+use Rattle.std.proofs.Math.Bool.{and_assoc}
+use Rattle.std.proofs.lemmas.List.{get_or-take, length-take}
+use Rattle.std.specs.List.{fold, slice_range}
 use Rattle.words.specs.Words.{small}
-use Rattle.words.specs.Words.{unused_word, ready_word, ended_word, first_wait, unmade_word, set_word, first_owned}
+use Rattle.words.specs.Words.{ended_word, unmade_word, set_word, first_owned}
 use Rattle.words.specs.Lists.{all_below, is}
 use Rattle.words.proofs.BoolLaws.{and_split, and_false, and_true, or_split, or_left, or_right, true_is_not_false}
 use Rattle.words.proofs.ListLaws.{set_each, get_or_replicate_same, all_below_same, all_below_at, all_below_make}
 use Rattle.rules.specs.Tables.{tables, live}
 use Rattle.rules.specs.Sound.{promise_word_passes, promise_passes}
-use Rattle.table_words.specs.Allowed.{every_word, task_word_passes, below, allowed, noted, Noted, MayHold, Fills}
-use Rattle.table_words.specs.Allowed.{LargestOf, live_at, not_between, owners_up_to, OnlyOwners}
-
--- ---- a task's word, by ranges
-
-pub task_word_ranges : (P w : ℕ)
-    → (leb w ended_word || (leb first_wait w && ltb w (first_wait + P))) ≡ task_word_passes P w
-unfolding task_word_passes
-task_word_ranges P w = go (ℕ_discrete w 0) (ℕ_discrete w 1) (ℕ_discrete w 2)
-  where
-    rest : (leb first_wait w && ltb w (first_wait + P)) ≡ (leb first_wait w && ltb (w - first_wait) P)
-    rest = by_size (dec_lt w first_wait) (dec_lt w (first_wait + P))
-      where
-        by_size : Dec (w < first_wait) → Dec (w < first_wait + P)
-            → (leb first_wait w && ltb w (first_wait + P)) ≡ (leb first_wait w && ltb (w - first_wait) P)
-        by_size (yes h) d = rw (lt-leb first_wait w h)
-        by_size (no n) (yes h) = rw (lt-ltb w (first_wait + P) h, lt-ltb (w - first_wait) P (omega arith))
-        by_size (no n) (no m) = rw (le-ltb w (first_wait + P) (omega arith), le-ltb (w - first_wait) P (omega arith))
-
-    go : Dec (w ≡ 0) → Dec (w ≡ 1) → Dec (w ≡ 2)
-        → (leb w ended_word || (leb first_wait w && ltb w (first_wait + P)))
-        ≡ (eqb w unused_word || eqb w ready_word || eqb w ended_word || (leb first_wait w && ltb (w - first_wait) P))
-    go (yes e) b c = rw e
-    go (no n) (yes e) c = rw e
-    go (no n) (no m) (yes e) = rw e
-    go (no n) (no m) (no k) =
-        rw (ne_eqb w 0 n, ne_eqb w 1 m, ne_eqb w 2 k, lt-leb w ended_word (omega arith)) rest
+use Rattle.table_words.specs.Allowed.{every_word, below, allowed, noted, Noted, MayHold, Fills}
+use Rattle.table_words.specs.Allowed.{LargestOf, not_between, owners_up_to, OnlyOwners}
 
 -- ---- a loop that notes of each task, from `from` on, whether its word passes f
 
@@ -97,36 +74,32 @@ module _ (f : ℕ → Bool) (ts : List ℕ) (from : ℕ) where
 
 -- ---- the largest word
 
-larger_below : (v w n : ℕ) → ltb (cond (ltb v w) w v) n ≡ (ltb v n && ltb w n)
-larger_below v w n = go (dec_lt v w) (dec_lt v n) (dec_lt w n)
+below_larger : (v w n : ℕ) → (ltb v n && ltb w n) ≡ ltb (max v w) n
+below_larger v w n = go (dec_lt v n) (dec_lt w n)
   where
-    go : Dec (v < w) → Dec (v < n) → Dec (w < n) → ltb (cond (ltb v w) w v) n ≡ (ltb v n && ltb w n)
-    go (yes h) (yes a) b = rw (lt-ltb v w h, lt-ltb v n a)
-    go (yes h) (no a) b = rw (lt-ltb v w h, le-ltb v n (omega arith), le-ltb w n (omega arith))
-    go (no h) a (yes b) = rw (le-ltb v w (omega arith), lt-ltb w n b) (sym (and_true (ltb v n)))
-    go (no h) a (no b) = rw (le-ltb v w (omega arith), le-ltb w n (omega arith), le-ltb v n (omega arith))
+    go : Dec (v < n) → Dec (w < n) → (ltb v n && ltb w n) ≡ ltb (max v w) n
+    go (yes a) (yes b) = rw (lt-ltb v n a, lt-ltb w n b, lt-ltb (max v w) n (omega arith))
+    go (yes a) (no b) = rw (lt-ltb v n a, le-ltb w n (omega arith), le-ltb (max v w) n (omega arith))
+    go (no a) b = rw (le-ltb v n (omega arith), le-ltb (max v w) n (omega arith))
 
--- `most` is the largest of the first i words
-pub record Most (ws : List ℕ) (most i : ℕ) : Type 0 where
-  pub within : i ≤ length ws
-  pub largest : (n : ℕ) → 0 < n → all_below i (λ k. below n (get_or ws k 0)) ≡ ltb most n
-
-pub most_start : (ws : List ℕ) → Most ws 0 0
+-- the first, and the rest
+all_below_cons : (n : ℕ) (f : ℕ → Bool) → all_below (suc n) f ≡ (f 0 && all_below n (λ i. f (suc i)))
 unfolding all_below
-most_start ws = record { within = omega arith; largest = λ n h. sym (lt-ltb 0 n h) }
+all_below_cons zero f = sym (and_true (f 0))
+all_below_cons (suc n) f = rw (all_below_cons n f) (and_assoc (f 0) (all_below n (λ i. f (suc i))) (f (suc n)))
 
-pub most_turn : {ws : List ℕ} {most i m : ℕ} → Most ws most i → i < length ws
-    → m ≡ cond (ltb most (get_or ws i 0)) (get_or ws i 0) most → Most ws m (i + 1)
-unfolding all_below below
-most_turn {ws} {most} {i} r h e = record {
-  within = omega arith;
-  largest = λ n z. rw (add-one, r.largest n z, e) (sym (larger_below most (get_or ws i 0) n));
-}
+every_word_cons : (f : ℕ → Bool) (w : ℕ) (ws : List ℕ) → every_word f (w ∷ ws) ≡ (f w && every_word f ws)
+every_word_cons f w ws = all_below_cons (length ws) (λ i. f (get_or (w ∷ ws) i 0))
 
-pub most_end : {ws : List ℕ} {most i : ℕ} → Most ws most i → length ws ≤ i → LargestOf ws most
-most_end {ws} {most} {i} r h n z =
-    let e : length ws ≡ i = omega (arith, r.within) in
-    ap (λ (k : ℕ). all_below k (λ j. below n (get_or ws j 0))) e ∙ r.largest n z
+below_fold : (ws : List ℕ) (v n : ℕ) → (ltb v n && every_word (below n) ws) ≡ ltb (fold max v ws) n
+unfolding below all_below
+below_fold [] v n = and_true (ltb v n)
+below_fold (w ∷ ws) v n =
+    let e = and_assoc (ltb v n) (ltb w n) (every_word (below n) ws) in
+    rw (every_word_cons (below n) w ws, ← e, below_larger v w n) (below_fold ws (max v w) n)
+
+pub largest_of_all : (ws : List ℕ) → LargestOf ws (fold max 0 ws)
+largest_of_all ws n h = rw (lt-ltb 0 n h) at (below_fold ws 0 n)
 
 -- ---- only owners
 
@@ -148,9 +121,10 @@ owner_passes B ts ps w h k l =
     second true x y e = refl
     second false x y e = rw e
 
-pub only_owners : (ts ps : List ℕ) (most : ℕ) → LargestOf ps most → all_below (owners_up_to most) (live_at ts) ≡ true
+pub only_owners : (ts ps : List ℕ) (most : ℕ) → LargestOf ps most
+    → every_word live (slice_range ts 0 (owners_up_to most)) ≡ true
     → owners_up_to most ≤ length ts → every_word not_between ps ≡ true → OnlyOwners ts ps
-unfolding promise_passes below live_at not_between
+unfolding promise_passes below not_between
 only_owners ts ps most l live_so few no_gap B =
     all_below_make (length ps) (promise_passes B (tables ts ps)) (λ q z. passes q z (or_split _ _ (apart q z)))
   where
@@ -164,6 +138,14 @@ only_owners ts ps most l live_so few no_gap B =
         (all_below_at (length ps) (λ k. ltb (get_or ps k 0) (suc most))
         (l (suc most) (omega arith) ∙ lt-ltb most (suc most) (omega arith)) q z)
 
+    lives : (t : ℕ) → t < owners_up_to most → live (get_or ts t 0) ≡ true
+    lives t z =
+        let n = owners_up_to most in
+        let within : t < length (slice_range ts 0 n) = omega (arith, length-take (n - 0) ts) in
+        let owner = λ (k : ℕ). live (get_or (slice_range ts 0 n) k 0) in
+        rw (get_or-take (n - 0) ts t 0 (omega arith)) at
+        (all_below_at (length (slice_range ts 0 n)) owner live_so t within)
+
     passes : (q : ℕ) → q < length ps
         → (leb (get_or ps q 0) set_word ≡ true) ⊎ (leb first_owned (get_or ps q 0) ≡ true)
         → promise_word_passes B (tables ts ps) (get_or ps q 0) ≡ true
@@ -173,7 +155,7 @@ only_owners ts ps most l live_so few no_gap B =
         let below_most = small q z in
         let named : get_or ps q 0 - first_owned < owners_up_to most = omega arith in
         owner_passes B ts ps (get_or ps q 0) h (omega (arith, named, few))
-        (all_below_at (owners_up_to most) (λ t. live (get_or ts t 0)) live_so (get_or ps q 0 - first_owned) named)
+        (lives (get_or ps q 0 - first_owned) named)
 
 -- ---- what the filled table says
 

@@ -6,7 +6,6 @@
 --   idle w                a task with the word w does not wait
 --   below n w             w is below n
 --   LargestOf ws r        every word of ws is below n exactly where r is, for n above 0
---   live_at ts t          task t is live, where ts are the tasks
 --   not_between w         w is unmade, set, or not below the first owner
 --   owners_up_to w        how many tasks there are up to the owner w, if it is one
 --   OnlyOwners ts ps      every word of ps is unmade, set, or a live owner of ts
@@ -22,7 +21,7 @@ use Rattle.std.specs.Prelude.{ℕ, suc, ◌+◌, ◌-◌, ◌≤◌, ◌<◌, �
 use Rattle.std.specs.Prelude.{eqb, leb, ltb, length, get_or, replicate}
 use Rattle.words.specs.Words.{unused_word, ready_word, ended_word, first_wait, set_word, first_owned}
 use Rattle.words.specs.Lists.{all_below}
-use Rattle.rules.specs.Tables.{tables, live, waiting}
+use Rattle.rules.specs.Tables.{tables, waiting}
 use Rattle.rules.specs.Sound.{promise_word_passes, promise_passes}
 
 abbrev pub every_word : (ℕ → Bool) → List ℕ → Bool
@@ -40,9 +39,6 @@ below n w = ltb w n
 
 abbrev pub LargestOf : List ℕ → ℕ → Type 0
 LargestOf ws r = (n : ℕ) → 0 < n → every_word (below n) ws ≡ ltb r n
-
-unfoldable pub live_at : List ℕ → ℕ → Bool
-live_at ts t = live (get_or ts t 0)
 
 unfoldable pub not_between : ℕ → Bool
 not_between w = leb w set_word || leb first_owned w

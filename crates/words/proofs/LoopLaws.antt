@@ -2,12 +2,12 @@
 -- and the end. Assumes nothing.
 use Prim.Native.Nat.{ℕ, ◌+◌, ◌-◌, ◌≤◌, ◌<◌}
 use mathlib.Core.Path.{◌≡◌, refl, sym, ap, ◌∙◌}
-use mathlib.Core.List.{List, [], ◌∷◌, map}
+use mathlib.Core.List.{List, map}
 use mathlib.Core.Bool.{Bool, true, false, ◌&&◌}
 use native.Mathlib.Omega.{arith}
 use native.Mathlib.Decide.{ℕ_discrete}
 use native.Mathlib.Numerals.{add-one}
-use lib.ListN.{length, get_or, set, drop, replicate, length-set}
+use lib.ListN.{length, get_or, set, drop, length-set}
 use lib.Seq.{sets}
 use Rattle.words.specs.Lists.{all_below, places}
 use Rattle.words.proofs.ListLaws.{mapped, mapped_none, mapped_more, mapped_get, mapped_all, places_step}
@@ -36,14 +36,6 @@ module _ (g : ℕ → ℕ) where
   rewritten_end {before} {now} {i} r h =
       let e : i ≡ length before = omega (arith, r.within) in
       r.table ∙ ap (λ (k : ℕ). mapped g k before) e ∙ mapped_all g before
-
--- every word made v
-abbrev pub filled : ℕ → ℕ → ℕ
-filled v w = v
-
-pub map_filled : (v : ℕ) (ws : List ℕ) → map (filled v) ws ≡ replicate {A = ℕ} (length ws) v
-map_filled v [] = refl
-map_filled v (w ∷ ws) = ap (λ (r : List ℕ). v ∷ r) (map_filled v ws)
 
 -- ---- a loop that writes the places of the words that pass f, from `from` on
 

@@ -1,6 +1,8 @@
 -- Lists of words: what every rule above says of a table or a report.
 --
 --   all_below n f       every number below n passes f
+--   Decides says f      of each word of 16 bits, whatever answer says gives is that of f: what a test that is handed in
+--                       may answer
 --   is v w              w is the word v
 --   places f i ws       the places of the words that pass f, counted from i, rising
 --   changed f x w       w, or x where w passes f
@@ -9,12 +11,15 @@
 --   over xs ws          ws with its first words written over by xs
 --   In x xs, Rising xs  x is one of xs; each of xs is less than the next
 -- Assumes nothing.
-use Rattle.std.specs.Prelude.{ℕ, zero, suc, ◌+◌, ◌<◌, List, [], ◌∷◌, ◌++◌, map, Bool, true, cond, ◌&&◌, eqb, length}
-use Rattle.std.specs.Prelude.{drop}
+use Rattle.std.specs.Prelude.{ℕ, zero, suc, ◌+◌, ◌<◌, ◌≡◌, List, [], ◌∷◌, ◌++◌, map, Bool, true, cond, ◌&&◌, eqb}
+use Rattle.std.specs.Prelude.{length, drop}
 
 unfoldable pub all_below : ℕ → (ℕ → Bool) → Bool
 all_below zero f = true
 all_below (suc n) f = all_below n f && f n
+
+abbrev pub Decides : (ℕ → Bool → Type 0) → (ℕ → Bool) → Type 0
+Decides says f = (w : ℕ) (answer : Bool) → w < 65536 → says w answer → answer ≡ f w
 
 unfoldable pub is : ℕ → ℕ → Bool
 is v w = eqb w v

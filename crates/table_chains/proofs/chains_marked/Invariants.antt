@@ -1,6 +1,5 @@
 -- `table_chains::chains_marked` meets its contract. The loop keeps: the tasks from v on pass, and the marks say what is
 -- known. Assumes nothing.
-use mathlib.Core.Path.{◌≡◌}
 use lib.ListN.{length}
 use Rattle.words.proofs.LoopLaws.{TestedFrom}
 use Rattle.rules.specs.Tables.{tables}
@@ -10,8 +9,4 @@ use Rattle.table_chains.proofs.chains_marked.Given as goal
 abbrev pub invariant-loop-v : goal.invariant-loop-v
 invariant-loop-v l =
     TestedFrom (chain_passes (tables l.tasks l.promises)) (length l.tasks) l.v
-    × (length l.marks ≡ length l.initial.marks)
     × MarksFor (tables l.tasks l.promises) l.marks
-
-abbrev pub decreases-loop-v : goal.decreases-loop-v
-decreases-loop-v l = l.v

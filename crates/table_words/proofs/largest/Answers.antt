@@ -1,14 +1,14 @@
--- `table_words::largest` meets its contract. The loop keeps: `most` is the largest word so far. Assumes nothing.
-use native.Mathlib.Omega.{arith}
-use Rattle.table_words.proofs.AllowedLaws.{most_start, most_turn, most_end}
+-- `table_words::largest` meets its contract: the iterator's fold is the fold of the list. Assumes nothing.
+use Prim.Native.Nat.{max}
+use borrow.Author.Rules.{rules}
+use Rattle.std.proofs.lemmas.Iterator.{YieldsList-from_slice}
+use Rattle.std.proofs.lemmas.Iterator.Consumers.{fold_from_yields_List}
+use Rattle.table_words.proofs.AllowedLaws.{largest_of_all}
 use Rattle.table_words.proofs.largest.Goals as goal
 
-pub loop-i-init : goal.loop-i-init
-loop-i-init c = most_start _
-
-pub loop-i-preserved : goal.loop-i-preserved
-loop-i-preserved c =
-    most_turn c.loop-i.invariant c.loop-i-test.true c.larger-most.ensures
-
 pub returns : goal.returns
-returns c = most_end c.loop-i.invariant (omega arith)
+returns c =
+    let words = c.args.table.now in
+    let road = YieldsList-from_slice words c.iter.ensures.rest in
+    let most = fold_from_yields_List _ max 0 c.fold.result c.fold.ensures.ran road (λ a x b q k. search rules) in
+    rw most (largest_of_all words)
