@@ -4,18 +4,22 @@
 use Prim.Native.Nat.{ℕ, ◌+◌, ◌-◌, ◌≤◌, ◌<◌}
 use mathlib.Core.Path.{◌≡◌, refl, sym, ◌∙◌}
 use mathlib.Core.Logic.{◌≢◌}
-use mathlib.Core.List.{List, [], ◌∷◌}
+use mathlib.Core.List.{List, [], ◌∷◌, ◌++◌}
 use mathlib.Core.Bool.{Bool, true, false, not}
 use native.Mathlib.Omega.{arith}
 use native.Mathlib.Nat.{sub-zero}
 use native.Mathlib.Numerals.{add-one}
-use borrow.Author.Tests.{eq-eqb, ne_eqb}
+use borrow.Author.Tests.{ne_eqb}
 use lib.ListN.{length, get_or, set, replicate, length-set}
 use Rattle.words.specs.Lists.{all_below}
 use Rattle.words.proofs.BoolLaws.{and_true}
 use Rattle.words.proofs.ListLaws.{set_each, get_or_replicate_same, all_below_none, all_below_fails}
-use Rattle.rules.specs.Refusals.{first, earlier, own_rows, differs, entry_refusal, first_bad}
-use Rattle.rules.proofs.RefusalLaws.{first_append, own_rows_numbered, own_rows_none, first_bad_step, first_bad_end}
+use Rattle.rules.specs.Refusals.{refusal_number}
+use Rattle.rules.proofs.RefusalLaws.{number_not_0}
+use Rattle.rules.specs.declared.Refusal.{Refusal}
+use Rattle.step_async.specs.Entries.{IsBad}
+use Rattle.rules.specs.Refusals.{first, own_rows, differs, entry_refusal, first_bad}
+use Rattle.rules.proofs.RefusalLaws.{own_rows_none, first_bad_step, first_bad_end}
 use Rattle.rules.proofs.PlaceLaws.{differs_hit, differs_miss}
 
 -- ---- the marks
@@ -38,23 +42,9 @@ mark_entry list seen i e is-e h old =
         let another = differs_miss list q i (λ z. n (sym z ∙ is-e)) in
         old q ∙ rw (add-one, another, and_true)
 
--- ---- one entry
-
 module _ (B : ℕ) (ps : List ℕ) (t : ℕ) (list : List ℕ) where
-  -- the refusal of the promise that entry i names, and that of the entry
-  abbrev own : ℕ → ℕ
-  own i = first (own_rows B ps t (get_or list i 0))
-
   abbrev each : ℕ → ℕ
   each = entry_refusal B ps t list
-
-  each_own : (i : ℕ) → own i ≢ 0 → each i ≢ 0
-  unfolding entry_refusal earlier
-  each_own i n e = n (sym (first_append _ (own_rows_numbered B ps t (get_or list i 0)) ∙ rw (ne_eqb (own i) 0 n)) ∙ e)
-
-  each_again : (i : ℕ) → own i ≡ 0 → each i ≡ first ((13, not (all_below i (differs list (get_or list i 0)))) ∷ [])
-  unfolding entry_refusal earlier
-  each_again i e = first_append _ (own_rows_numbered B ps t (get_or list i 0)) ∙ rw (eq-eqb (own i) 0 e)
 
   -- ---- the loop, with marks for n promises
 
@@ -72,33 +62,34 @@ module _ (B : ℕ) (ps : List ℕ) (t : ℕ) (list : List ℕ) where
     rest = rw sub-zero;
   }
 
-  -- entry i
-  module _ {n : ℕ} {seen : List Bool} {i : ℕ} (j : Judged n seen i) (h : i < length list) where
-    pub judged_own : own i ≢ 0 → i ≡ first_bad each (length list) 0
-    judged_own b = rw (j.rest, first_bad_step each (length list) i h, ne_eqb (each i) 0 (each_own i b))
+  -- entry i, which names the promise q and is refused by r
+  module _ {n : ℕ} {seen : List Bool} {i q r : ℕ} (j : Judged n seen i) (h : i < length list) (is : q ≡ get_or list i 0)
+      (e : r ≡ first (own_rows B ps t q ++ (13, get_or seen q false) ∷ [])) where
+    at_entry : r ≡ each i
+    unfolding entry_refusal
+    at_entry = e ∙ rw (is, j.marks (get_or list i 0))
 
-    module _ (e : own i ≡ 0) where
-      pub judged_below : length ps ≤ n → get_or list i 0 < length seen
-      judged_below l = omega (arith, j.long, (own_rows_none B ps t (get_or list i 0) [] e).0)
+    pub judged_bad : (f : Refusal) → r ≡ refusal_number f → IsBad each (length list) (record { place = i; refusal = f })
+    judged_bad f same =
+        let bad : each i ≢ 0 = λ z. number_not_0 f (sym same ∙ at_entry ∙ z) in
+        record {
+          within = h;
+          place = rw (j.rest, first_bad_step each (length list) i h, ne_eqb (each i) 0 bad);
+          refusal = sym same ∙ at_entry;
+        }
 
-      pub judged_again : get_or seen (get_or list i 0) false ≡ true → i ≡ first_bad each (length list) 0
-      unfolding first
-      judged_again s =
-          let bad : each i ≡ 13 = each_again i e ∙ rw (← j.marks (get_or list i 0), s) in
-          rw (j.rest, first_bad_step each (length list) i h, bad)
-
-      pub judged_turn : length ps ≤ n → get_or seen (get_or list i 0) false ≡ false
-          → Judged n (set seen (get_or list i 0) true) (i + 1)
-      unfolding first
-      judged_turn l s =
-          let good : each i ≡ 0 = each_again i e ∙ rw (← j.marks (get_or list i 0), s) in
-          record {
-            within = omega arith;
-            long = length-set seen (get_or list i 0) true ∙ j.long;
-            marks = mark_entry list seen i (get_or list i 0) refl (judged_below l) j.marks;
-            rest = rw (j.rest, first_bad_step each (length list) i h, good);
-          }
+    pub judged_turn : length ps ≤ n → r ≡ 0 → Judged n (set seen q true) (i + 1)
+    judged_turn l z =
+        let below : q < length seen = omega (arith, j.long, (own_rows_none B ps t q _ (sym e ∙ z)).0) in
+        record {
+          within = omega arith;
+          long = length-set seen q true ∙ j.long;
+          marks = mark_entry list seen i q (sym is) below j.marks;
+          rest = rw (j.rest, first_bad_step each (length list) i h, ← at_entry, z);
+        }
 
   pub judged_end : {n : ℕ} {seen : List Bool} {i : ℕ} → Judged n seen i → length list ≤ i
-      → i ≡ first_bad each (length list) 0
-  judged_end j h = rw (j.rest, first_bad_end each (length list) _ h)
+      → length list ≡ first_bad each (length list) 0
+  judged_end {i = i} j h =
+      let e : i ≡ length list = omega (arith, j.within) in
+      sym e ∙ rw (j.rest, first_bad_end each (length list) _ h)

@@ -2,107 +2,97 @@
 // it, or none does.
 #![tactic(auto)]
 
-ghost use Rattle.std.specs.Prelude.{◌≡◌, [], ◌∷◌, true, false, not, ◌-◌, ◌≤◌, ◌<◌, length, get_or, replicate};
+ghost use Rattle.std.specs.Prelude.{◌≡◌, [], ◌∷◌, ◌++◌, true, false, ◌-◌, ◌≤◌, ◌<◌, length, get_or, set, replicate};
+ghost use Rattle.std.specs.Prelude.{OnOk};
 ghost use Rattle.words.specs.Words.{small};
-ghost use Rattle.words.specs.Lists.{all_below};
 ghost use Rattle.rules.specs.Tables.{tables as tables_of, sizes_fit};
 ghost use Rattle.rules.specs.Answers.{refused_at_with};
-ghost use Rattle.rules.specs.Refusals.{first, differs, entry_refusal, first_bad};
-ghost use Rattle.rules.specs.Steps.{step_async, rows, given};
+ghost use Rattle.rules.specs.Refusals.{refusal_number, refused_by, first, actor_rows, child_rows, own_rows};
+ghost use Rattle.rules.specs.Refusals.{entry_refusal};
+ghost use Rattle.rules.specs.Steps.{step_async, given};
 ghost use Rattle.rules.specs.StepContracts.{TakesQuietly};
+ghost use Rattle.step_async.specs.Entries.{Judges};
 
-use rules::Answer;
-use step_guards::{actor_refusal, child_refusal, earlier, own_refusal};
-use table_access::{at, number_at, put};
+use rules::{Answer, Refusal};
+use step_guards::{check_actor, check_child, check_own};
+use table_access::{number_at, put};
 use words::{Limit, PromiseWord, TaskWord};
 
+// A bad entry of the list: its place, and what refuses it.
+#[derive(Clone, Copy)]
+struct BadEntry {
+    place: usize,
+    refusal: Refusal,
+}
+
 // Refusals 3, 4, 5, 11 and 12.
-fn refusal(tasks: &[u16], promises: &[u16], t: u16, c: u16, list: &[u16]) -> u16
-    ensures { result ≡ first (rows small (tables_of tasks.now promises.now)
-        (step_async t c list.now)) }
+#[tactic(auto, using(rules::proofs::RefusalLaws::number_not_0), unfolding(rules::specs::Refusals::first))]
+fn check(tasks: &[u16], t: u16, c: u16) -> Result<(), Refusal>
+    ensures { refused_by result ≡ first (actor_rows tasks.now t ++ child_rows tasks.now c) }
 {
-    let a = actor_refusal(tasks, t);
-    let b = child_refusal(tasks, c);
-    earlier(a, b)
+    check_actor(tasks, t)?;
+    check_child(tasks, c)
 }
 
-// Refusal 13, or 0: whether one of the first `k` entries is `q`.
-fn again_refusal(list: &[u16], q: u16, k: usize) -> u16
-    ensures { result ≡ first ((13, not (all_below k (differs list.now q))) ∷ []) }
+// Refusals 6, 8, 9, 17, 10 and 13 of an entry that names promise `q`: `seen` has a mark for each promise that an
+// earlier entry names, and gets one for `q`.
+#[tactic(auto, using(rules::proofs::RefusalLaws::number_not_0), unfolding(rules::specs::Refusals::first))]
+fn check_entry(promises: &[u16], t: u16, q: u16, seen: &mut [bool]) -> Result<(), Refusal>
+    requires { length promises.now ≤ length seen.old }
+    ensures refused { refused_by result
+        ≡ first (own_rows small.base promises.now t q ++ (13, get_or seen.old q false) ∷ []) }
+    ensures marked { OnOk result (seen.new ≡ set seen.old q true) }
 {
-    let mut i = 0;
-    while i < k {
-        if at(list, i) == q {
-            return 13;
-        }
-        i += 1;
+    check_own(promises, t, q)?;
+    let place = usize::from(q);
+    if seen[place] {
+        return Err(Refusal::ListedTwice);
     }
-    0
+    seen[place] = true;
+    Ok(())
 }
 
-// Refusals 6, 8, 9, 17, 10 and 13 of entry `k` of the list.
-fn entry_refusal(promises: &[u16], t: u16, list: &[u16], k: usize) -> u16
-    ensures { result ≡ entry_refusal small.base promises.now t list.now k }
-{
-    let q = at(list, k);
-    let own = own_refusal(promises, t, q);
-    let again = again_refusal(list, q, k);
-    earlier(own, again)
-}
-
-// The first bad place, and the list's length where there is none. `seen` has a mark for each promise, none of them set:
-// each is set at the first entry that names its promise.
-fn first_bad_marked(promises: &[u16], t: u16, list: &[u16], seen: &mut [bool]) -> usize
+// The first bad entry, if there is one. `seen` has a mark for each promise, none of them set: each is set at the first
+// entry that names its promise.
+fn check_entries(promises: &[u16], t: u16, list: &[u16], seen: &mut [bool]) -> Result<(), BadEntry>
     requires { (length promises.now ≤ length seen.old) × (seen.old ≡ replicate (length seen.old) false) }
-    ensures { result ≡ first_bad (entry_refusal small.base promises.now t list.now)
-        (length list.now) 0 }
+    ensures { Judges (entry_refusal small.base promises.now t list.now) (length list.now) result }
 {
-    let mut i = 0;
-    while i < list.len() {
-        let q = list[i];
-        if own_refusal(promises, t, q) != 0 {
-            return i;
+    for (place, &q) in list.iter().enumerate() {
+        if let Err(refusal) = check_entry(promises, t, q, seen) {
+            return Err(BadEntry { place, refusal });
         }
-        let place = q as usize;
-        if seen[place] {
-            return i;
-        }
-        seen[place] = true;
-        i += 1;
     }
-    i
+    Ok(())
 }
 
 // The same, with marks of its own.
-fn first_bad(promises: &[u16], t: u16, list: &[u16]) -> usize
+fn check_list(promises: &[u16], t: u16, list: &[u16]) -> Result<(), BadEntry>
     requires { length promises.now ≤ small.most_promises }
-    ensures { result ≡ first_bad (entry_refusal small.base promises.now t list.now)
-        (length list.now) 0 }
+    ensures { Judges (entry_refusal small.base promises.now t list.now) (length list.now) result }
 {
     let mut seen = [false; Limit::PROMISES];
-    first_bad_marked(promises, t, list, &mut seen)
+    check_entries(promises, t, list, &mut seen)
 }
 
-// The answer that refuses for entry `k`, at its place: 17 with the task that the entry is blamed on.
-fn refused_entry(promises: &[u16], t: u16, list: &[u16], k: usize) -> Answer
-    requires { k < 65536 }
+// The answer that refuses for a bad entry, at its place: 17 with the task that the entry is blamed on.
+#[tactic(auto, using(rules::proofs::RefusalLaws::one_refusal), unfolding(rules::specs::Answers::refused_at_with))]
+fn refused_entry(promises: &[u16], list: &[u16], bad: BadEntry) -> Answer
+    requires { (bad.place < length list.now) × (bad.place < 65536) }
     ensures { result
-        ≡ refused_at_with (get_or promises.now (get_or list.now k 0) 0 - small.base) k
-        (entry_refusal small.base promises.now t list.now k) }
+        ≡ refused_at_with (get_or promises.now (get_or list.now bad.place 0) 0 - small.base) bad.place
+        (refusal_number bad.refusal) }
 {
-    let e = entry_refusal(promises, t, list, k);
-    let place = k as u16;
-    if e == 17 {
-        let entry = at(list, k);
-        let b = number_at(promises, PromiseWord::FIRST_BLAMED, entry);
-        return Answer::RefusedBlamedAt {
-            place: place,
-            blamed: b,
-        };
-    }
-    Answer::RefusedAt {
-        number: e,
-        place: place,
+    let place = bad.place as u16;
+    match bad.refusal {
+        Refusal::Blamed => Answer::RefusedBlamedAt {
+            place,
+            blamed: number_at(promises, PromiseWord::FIRST_BLAMED, list[bad.place]),
+        },
+        refusal => Answer::RefusedAt {
+            number: refusal.number(),
+            place,
+        },
     }
 }
 
@@ -110,11 +100,8 @@ fn refused_entry(promises: &[u16], t: u16, list: &[u16], k: usize) -> Answer
 fn give(promises: &mut [u16], w: u16, list: &[u16])
     ensures { promises.new ≡ given w list.now promises.old }
 {
-    let mut moved = 0;
-    while moved < list.len() {
-        let q = list[moved];
-        put(promises, q as usize, w);
-        moved += 1;
+    for &q in list {
+        put(promises, usize::from(q), w);
     }
 }
 
@@ -126,16 +113,13 @@ pub fn raw_async(tasks: &mut [u16], promises: &mut [u16], t: u16, c: u16, list: 
         (tables_of tasks.old promises.old)
         result (tables_of tasks.new promises.new) }
 {
-    let r = refusal(tasks, promises, t, c, list);
-    if r != 0 {
-        return Answer::Refused(r);
+    if let Err(refusal) = check(tasks, t, c) {
+        return refusal.into();
     }
-    let k = first_bad(promises, t, list);
-    if k < list.len() {
-        return refused_entry(promises, t, list, k);
+    if let Err(bad) = check_list(promises, t, list) {
+        return refused_entry(promises, list, bad);
     }
-    put(tasks, c as usize, TaskWord::READY);
-    let w = PromiseWord::owned_by(c);
-    give(promises, w, list);
+    put(tasks, usize::from(c), TaskWord::READY);
+    give(promises, PromiseWord::owned_by(c), list);
     Answer::Started
 }

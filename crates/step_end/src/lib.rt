@@ -2,69 +2,22 @@
 // these becomes ready.
 #![tactic(auto)]
 
-ghost use Rattle.std.specs.Prelude.{◌≡◌, true, ◌+◌, ◌≤◌, length};
-ghost use Rattle.std.proofs.lemmas.List.Edits.{sets};
-ghost use Rattle.words.specs.Words.{small, ready_word};
-ghost use Rattle.words.specs.Lists.{places, changed, replaced};
+ghost use Rattle.std.specs.Prelude.{◌≡◌, true, length};
+ghost use Rattle.words.specs.Words.{small};
 ghost use Rattle.rules.specs.Tables.{tables as tables_of, in_bounds};
 ghost use Rattle.rules.specs.Steps.{step_end, awaits};
 ghost use Rattle.rules.specs.StepContracts.{TakesRaw};
 
 use rules::Answer;
-use step_guards::actor_refusal;
-use table_access::{at, collect_word, put, replace_word};
+use step_guards::check_actor;
+use table_access::{at, collect_where, put, replace_where};
 use words::{PromiseWord, TaskWord};
 
 // Whether a task with the word `w` waits on a promise whose word is `v`.
 fn awaits_word(promises: &[u16], v: u16, w: u16) -> bool
     ensures { result ≡ awaits promises.now v w }
 {
-    if w < TaskWord::FIRST_WAIT {
-        return false;
-    }
-    let p = w - TaskWord::FIRST_WAIT;
-    at(promises, p as usize) == v
-}
-
-// Writes the tasks that wait on a promise whose word is `v` to `out` from index `from` on, rising. Returns the index
-// after the last.
-fn collect_waiting(tasks: &[u16], promises: &[u16], v: u16, out: &mut [u16], from: usize) -> usize
-    requires { (from + length tasks.now ≤ length out.old) × (length tasks.now ≤ 65536) }
-    ensures { (result ≡ from + length (places (awaits promises.now v) 0 tasks.now))
-        × (out.new
-        ≡ sets out.old from (places (awaits promises.now v) 0 tasks.now)) }
-{
-    let mut i = 0;
-    let mut n = from;
-    while i < tasks.len() {
-        if awaits_word(promises, v, tasks[i]) {
-            out[n] = i as u16;
-            n += 1;
-        }
-        i += 1;
-    }
-    n
-}
-
-// A task's word, or ready in its place where it waits on a promise whose word is `v`.
-fn woken_word(promises: &[u16], v: u16, w: u16) -> u16
-    ensures { result ≡ changed (awaits promises.now v) ready_word w }
-{
-    if awaits_word(promises, v, w) {
-        return TaskWord::READY;
-    }
-    w
-}
-
-// Each task that waits on a promise whose word is `v` becomes ready.
-fn wake_waiting(tasks: &mut [u16], promises: &[u16], v: u16)
-    ensures { tasks.new ≡ replaced (awaits promises.now v) ready_word tasks.old }
-{
-    let mut i = 0;
-    while i < tasks.len() {
-        tasks[i] = woken_word(promises, v, tasks[i]);
-        i += 1;
-    }
+    TaskWord::FIRST_WAIT <= w && at(promises, usize::from(w - TaskWord::FIRST_WAIT)) == v
 }
 
 // The step without refusals 1 and 2, for a caller that has tested the bounds and the tables. Who waits is found
@@ -74,22 +27,18 @@ pub fn raw_end(tasks: &mut [u16], promises: &mut [u16], report: &mut [u16], t: u
     ensures { TakesRaw small (step_end t) (tables_of tasks.old promises.old)
         report.old result (tables_of tasks.new promises.new) report.new }
 {
-    let r = actor_refusal(tasks, t);
-    if r != 0 {
-        return Answer::Refused(r);
+    if let Err(refusal) = check_actor(tasks, t) {
+        return refusal.into();
     }
     let v = PromiseWord::owned_by(t);
-    let m = collect_word(promises, v, report, 0);
-    let e = collect_waiting(tasks, promises, v, report, m);
-    let n = e - m;
-    wake_waiting(tasks, promises, v);
-    put(tasks, t as usize, TaskWord::ENDED);
-    let b = PromiseWord::blamed_on(t);
-    replace_word(promises, v, b);
-    let promise_count = m as u16;
-    let task_count = n as u16;
-    Answer::Ended {
-        omitted: promise_count,
-        woken: task_count,
-    }
+    let owned = |w| w == v;
+    let waits = |w| awaits_word(promises, v, w);
+    let m = collect_where(promises, owned, report, 0);
+    let e = collect_where(tasks, waits, report, m);
+    replace_where(tasks, waits, TaskWord::READY);
+    put(tasks, usize::from(t), TaskWord::ENDED);
+    replace_where(promises, owned, PromiseWord::blamed_on(t));
+    let omitted = m as u16;
+    let woken = (e - m) as u16;
+    Answer::Ended { omitted, woken }
 }

@@ -8,7 +8,10 @@ use native.Mathlib.Omega.{arith}
 use lib.ListN.{length, set}
 use lib.Seq.{sets}
 use borrow.Author.Tests.{eq-eqb, ne_eqb, le-leb, lt-leb}
-use Rattle.words.specs.Words.{set_word, first_owned, waits_on}
+use Rattle.words.specs.Words.{small, set_word, first_owned, waits_on, blamed_on}
+use Rattle.words.specs.States.{ReadsPromise}
+use Rattle.words.specs.declared.PromiseState.{PromiseState}
+use Rattle.words.specs.declared.PromiseState.TheVariants.{Unmade, Set, Owned, Damaged, Blamed as BlamedOn}
 use Rattle.words.proofs.ListLaws.{over_none, over_sets}
 use Rattle.rules.specs.Tables.{Tables, with_tasks}
 use Rattle.rules.specs.Chains.{view}
@@ -48,12 +51,27 @@ module _ (s : Tables) (t p : ℕ) {rs : List ℕ} where
     unfolding got
     got_set e = rw (eq-eqb w set_word e) (record { answer = refl; after = refl; report = sym (over_none rs) })
 
-    pub got_blamed : w ≢ set_word → B ≤ w → Gives (got B s t p w) rs (Blamed (w - B)) s rs
-    unfolding got
-    got_blamed n h =
-        rw (ne_eqb w set_word n, le-leb B w h) (record { answer = refl; after = refl; report = sym (over_none rs) })
-
     pub got_followed : {a : Answer} {s' : Tables} {rs' : List ℕ} → w ≢ set_word → w < B
         → Gives (followed s t p (walk_from s t (w - first_owned))) rs a s' rs' → Gives (got B s t p w) rs a s' rs'
     unfolding got
     got_followed n h g = rw (ne_eqb w set_word n, lt-leb B w h) g
+
+  -- w is the promise's word, of the small form
+  module _ (w : ℕ) where
+    pub got_blamed : {b : ℕ} → w ≡ blamed_on small.base b → Gives (got small.base s t p w) rs (Blamed b) s rs
+    unfolding got
+    got_blamed {b} e =
+        let value : w - small.base ≡ b = omega arith in
+        rw (ne_eqb w set_word (λ (z : w ≡ set_word). omega arith), le-leb small.base w (omega arith), value)
+        (record { answer = refl; after = refl; report = sym (over_none rs) })
+
+    -- neither set nor blamed
+    pub got_open : (state : PromiseState) {a : Answer} {s' : Tables} {rs' : List ℕ} → ReadsPromise w state
+        → (state ≡ Set → ⊥) → ((b : ℕ) → state ≡ BlamedOn b → ⊥)
+        → Gives (followed s t p (walk_from s t (w - first_owned))) rs a s' rs'
+        → Gives (got small.base s t p w) rs a s' rs'
+    got_open Unmade e n m g = got_followed small.base w (λ z. omega arith) (omega arith) g
+    got_open Set e n m g = absurd (n refl)
+    got_open (Owned u) e n m g = got_followed small.base w (λ z. omega (arith, e.0)) e.1 g
+    got_open (BlamedOn b) e n m g = absurd (m b refl)
+    got_open Damaged e n m g = got_followed small.base w (λ z. omega (arith, e.0)) (omega (arith, e.1)) g

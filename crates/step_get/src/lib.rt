@@ -5,21 +5,23 @@
 ghost use Rattle.std.specs.Prelude.{◌≡◌, true, ◌*◌, ◌≤◌, ◌<◌, length, set};
 ghost use Rattle.words.specs.Words.{small, Form, waits_on};
 ghost use Rattle.rules.specs.Tables.{tables as tables_of, in_bounds};
-ghost use Rattle.rules.specs.Refusals.{first};
+ghost use Rattle.rules.specs.Refusals.{first, refused_by};
 ghost use Rattle.rules.specs.Steps.{step_get, asked_of, effect, rows};
 ghost use Rattle.rules.specs.StepContracts.{Gives, TakesRaw};
 
-use rules::Answer;
-use step_guards::{actor_refusal, earlier, get_refusal as promise_refusal};
+use rules::{Answer, Refusal};
+use step_guards::{check_actor, check_get};
 use table_access::{at, number_at, put};
 use table_walks::{Trail, follow, write_pairs};
-use words::{PromiseWord, TaskWord};
+use words::{PromiseState, PromiseWord, TaskWord};
 
 // Refusals 3, 4, 5, 6 and 8.
-fn refusal(tasks: &[u16], promises: &[u16], t: u16, p: u16) -> u16
-    ensures { result ≡ first (rows small (tables_of tasks.now promises.now) (step_get t p)) }
+#[tactic(auto, using(rules::proofs::RefusalLaws::number_not_0), unfolding(rules::specs::Refusals::first))]
+fn check(tasks: &[u16], promises: &[u16], t: u16, p: u16) -> Result<(), Refusal>
+    ensures { refused_by result ≡ first (rows small (tables_of tasks.now promises.now) (step_get t p)) }
 {
-    earlier(actor_refusal(tasks, t), promise_refusal(promises, p))
+    check_actor(tasks, t)?;
+    check_get(promises, p)
 }
 
 // Task `t` now waits on `p`.
@@ -27,7 +29,7 @@ fn wait_on(tasks: &mut [u16], t: u16, p: u16)
     requires { p < 65520 }
     ensures { tasks.new ≡ set tasks.old t (waits_on p) }
 {
-    put(tasks, t as usize, TaskWord::waits_on(p));
+    put(tasks, usize::from(t), TaskWord::waits_on(p));
 }
 
 // Follows owners from `p`, which is not closed.
@@ -38,22 +40,21 @@ fn get_owned(tasks: &mut [u16], promises: &[u16], report: &mut [u16], t: u16, p:
         report.old result (tables_of tasks.new promises.now) report.new }
 {
     let from = number_at(promises, PromiseWord::FIRST_OWNED, p);
-    let trail = follow(tasks, promises, t as usize, from as usize);
-    match trail {
+    match follow(tasks, promises, usize::from(t), usize::from(from)) {
         Trail::Back(k) => {
             let n = k as u16;
             write_pairs(tasks, promises, report, n, t, p);
-            return Answer::Cycle(n);
+            Answer::Cycle(n)
         }
         Trail::Free(k) => {
             let n = k as u16;
             wait_on(tasks, t, p);
-            return Answer::Waits(n);
+            Answer::Waits(n)
         }
         Trail::Astray => {
             let most = tasks.len() as u16;
             wait_on(tasks, t, p);
-            return Answer::Waits(most);
+            Answer::Waits(most)
         }
     }
 }
@@ -65,14 +66,11 @@ fn get_made(tasks: &mut [u16], promises: &[u16], report: &mut [u16], t: u16, p: 
     ensures { Gives (effect small (tables_of tasks.old promises.now) (step_get t p))
         report.old result (tables_of tasks.new promises.now) report.new }
 {
-    let w = at(promises, p as usize);
-    if w == PromiseWord::SET {
-        return Answer::Value;
+    match PromiseState::from(at(promises, usize::from(p))) {
+        PromiseState::Set => Answer::Value,
+        PromiseState::Blamed(task) => Answer::Blamed(task),
+        _ => get_owned(tasks, promises, report, t, p),
     }
-    if PromiseWord::FIRST_BLAMED <= w {
-        return Answer::Blamed(w - PromiseWord::FIRST_BLAMED);
-    }
-    get_owned(tasks, promises, report, t, p)
 }
 
 // The step without refusals 1 and 2, for a caller that has tested the bounds and the tables.
@@ -81,9 +79,8 @@ pub fn raw_get(tasks: &mut [u16], promises: &[u16], report: &mut [u16], t: u16, 
     ensures { TakesRaw small (step_get t p) (tables_of tasks.old promises.now)
         report.old result (tables_of tasks.new promises.now) report.new }
 {
-    let n = refusal(tasks, promises, t, p);
-    if n != 0 {
-        return Answer::Refused(n);
+    if let Err(refusal) = check(tasks, promises, t, p) {
+        return refusal.into();
     }
     get_made(tasks, promises, report, t, p)
 }

@@ -1,107 +1,77 @@
-// The refusals that look at one number of a step: each function returns the first that applies, and 0 where none
-// does. They ask nothing of their caller.
-#![tactic(auto)]
+// The refusals that look at one number of a step: each function gives the first that applies, or passes. They ask
+// nothing of their caller.
+#![tactic(auto, unfolding(rules::specs::Refusals::first))]
 
-ghost use Rattle.std.specs.Prelude.{◌≡◌};
+ghost use Rattle.std.specs.Prelude.{◌≡◌, ◌<◌, ◌≤◌, length, get_or, MatchResult};
 ghost use Rattle.words.specs.Words.{small};
-ghost use Rattle.rules.specs.Refusals.{earlier as earlier_of, first, actor_rows, child_rows, new_rows, get_rows};
-ghost use Rattle.rules.specs.Refusals.{own_rows};
+ghost use Rattle.words.specs.States.{ReadsPromise};
+ghost use Rattle.rules.specs.Refusals.{refused_by, first, actor_rows, child_rows, new_rows, get_rows, own_rows};
 
-use words::{PromiseWord, TaskWord};
-
-// The first of two refusals, where 0 is none.
-pub fn earlier(a: u16, b: u16) -> u16
-    ensures { result ≡ earlier_of a b }
-{
-    if a == 0 {
-        return b;
-    }
-    a
-}
+use rules::Refusal;
+use words::{PromiseState, TaskState};
 
 // Refusals 3, 4 and 5: the acting task.
-pub fn actor_refusal(tasks: &[u16], t: u16) -> u16
-    ensures { result ≡ first (actor_rows tasks.now t) }
+pub fn check_actor(tasks: &[u16], t: u16) -> Result<(), Refusal>
+    ensures { refused_by result ≡ first (actor_rows tasks.now t) }
 {
-    let i = t as usize;
-    if tasks.len() <= i {
-        return 3;
+    let word = tasks.get(usize::from(t)).ok_or(Refusal::NoTask)?;
+    match TaskState::from(*word) {
+        TaskState::Ready => Ok(()),
+        TaskState::Waits(_) => Err(Refusal::Waits),
+        _ => Err(Refusal::NotLive),
     }
-    let w = tasks[i];
-    if w == TaskWord::READY {
-        return 0;
-    }
-    if w < TaskWord::FIRST_WAIT {
-        return 4;
-    }
-    5
 }
 
 // Refusals 11 and 12: the child of an async.
-pub fn child_refusal(tasks: &[u16], c: u16) -> u16
-    ensures { result ≡ first (child_rows tasks.now c) }
+pub fn check_child(tasks: &[u16], c: u16) -> Result<(), Refusal>
+    ensures { refused_by result ≡ first (child_rows tasks.now c) }
 {
-    let i = c as usize;
-    if tasks.len() <= i {
-        return 11;
+    let word = tasks.get(usize::from(c)).ok_or(Refusal::NoChild)?;
+    match TaskState::from(*word) {
+        TaskState::Unused => Ok(()),
+        _ => Err(Refusal::ChildInUse),
     }
-    if tasks[i] == TaskWord::UNUSED {
-        return 0;
-    }
-    12
+}
+
+// What the word of promise `p` says, or refusal 6.
+fn promise_at(promises: &[u16], p: u16) -> Result<PromiseState, Refusal>
+    ensures { MatchResult result
+        (λ state. (p < length promises.now) × ReadsPromise (get_or promises.now p 0) state)
+        (λ refusal. (length promises.now ≤ p) × (refusal ≡ Refusal.NoPromise)) }
+{
+    let word = promises.get(usize::from(p)).ok_or(Refusal::NoPromise)?;
+    Ok(PromiseState::from(*word))
 }
 
 // Refusals 6 and 7: the promise of a new.
-pub fn new_refusal(promises: &[u16], p: u16) -> u16
-    ensures { result ≡ first (new_rows promises.now p) }
+pub fn check_new(promises: &[u16], p: u16) -> Result<(), Refusal>
+    ensures { refused_by result ≡ first (new_rows promises.now p) }
 {
-    let i = p as usize;
-    if promises.len() <= i {
-        return 6;
+    match promise_at(promises, p)? {
+        PromiseState::Unmade => Ok(()),
+        _ => Err(Refusal::AlreadyMade),
     }
-    if promises[i] != PromiseWord::UNMADE {
-        return 7;
-    }
-    0
 }
 
 // Refusals 6 and 8: the promise of a get.
-pub fn get_refusal(promises: &[u16], p: u16) -> u16
-    ensures { result ≡ first (get_rows promises.now p) }
+pub fn check_get(promises: &[u16], p: u16) -> Result<(), Refusal>
+    ensures { refused_by result ≡ first (get_rows promises.now p) }
 {
-    let i = p as usize;
-    if promises.len() <= i {
-        return 6;
+    if promise_at(promises, p)? == PromiseState::Unmade {
+        return Err(Refusal::NeverMade);
     }
-    if promises[i] == PromiseWord::UNMADE {
-        return 8;
-    }
-    0
+    Ok(())
 }
 
 // Refusals 6, 8, 9, 17 and 10: a promise that only its owner may set or hand on.
-pub fn own_refusal(promises: &[u16], t: u16, p: u16) -> u16
-    ensures { result ≡ first (own_rows small.base promises.now t p) }
+pub fn check_own(promises: &[u16], t: u16, p: u16) -> Result<(), Refusal>
+    ensures { refused_by result ≡ first (own_rows small.base promises.now t p) }
 {
-    let i = p as usize;
-    if promises.len() <= i {
-        return 6;
+    match promise_at(promises, p)? {
+        PromiseState::Unmade => Err(Refusal::NeverMade),
+        PromiseState::Set => Err(Refusal::AlreadySet),
+        PromiseState::Blamed(_) => Err(Refusal::Blamed),
+        PromiseState::Owned(owner) if owner == t => Ok(()),
+        _ => Err(Refusal::NotOwner),
     }
-    let w = promises[i];
-    if w == PromiseWord::UNMADE {
-        return 8;
-    }
-    if w == PromiseWord::SET {
-        return 9;
-    }
-    if PromiseWord::FIRST_BLAMED <= w {
-        return 17;
-    }
-    if w < PromiseWord::FIRST_OWNED {
-        return 10;
-    }
-    if w - PromiseWord::FIRST_OWNED == t {
-        return 0;
-    }
-    10
 }

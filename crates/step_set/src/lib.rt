@@ -5,33 +5,33 @@ ghost use Rattle.std.specs.Prelude.{◌≡◌, true, ◌-◌, length, get_or};
 ghost use Rattle.words.specs.Words.{small};
 ghost use Rattle.rules.specs.Tables.{tables as tables_of, in_bounds};
 ghost use Rattle.rules.specs.Answers.{refused_with};
-ghost use Rattle.rules.specs.Refusals.{first};
+ghost use Rattle.rules.specs.Refusals.{first, refusal_number, refused_by};
 ghost use Rattle.rules.specs.Steps.{step_set, rows};
 ghost use Rattle.rules.specs.StepContracts.{TakesRaw};
 
-use rules::Answer;
-use step_guards::{actor_refusal, earlier, own_refusal};
-use table_access::{collect_word, number_at, put, replace_word};
+use rules::{Answer, Refusal};
+use step_guards::{check_actor, check_own};
+use table_access::{collect_where, number_at, put, replace_where};
 use words::{PromiseWord, TaskWord};
 
 // Refusals 3, 4, 5, 6, 8, 9, 17 and 10.
-fn refusal(tasks: &[u16], promises: &[u16], t: u16, p: u16) -> u16
-    ensures { result ≡ first (rows small (tables_of tasks.now promises.now) (step_set t p)) }
+#[tactic(auto, using(rules::proofs::RefusalLaws::number_not_0), unfolding(rules::specs::Refusals::first))]
+fn check(tasks: &[u16], promises: &[u16], t: u16, p: u16) -> Result<(), Refusal>
+    ensures { refused_by result ≡ first (rows small (tables_of tasks.now promises.now) (step_set t p)) }
 {
-    let a = actor_refusal(tasks, t);
-    let b = own_refusal(promises, t, p);
-    earlier(a, b)
+    check_actor(tasks, t)?;
+    check_own(promises, t, p)
 }
 
-// The answer that refuses by `r`: 17 with the task that `p` is blamed on, any other by its number alone.
-fn refused(promises: &[u16], p: u16, r: u16) -> Answer
-    ensures { result ≡ refused_with (get_or promises.now p 0 - small.base) r }
+// The answer that refuses: 17 with the task that `p` is blamed on, any other refusal by its number alone.
+#[tactic(auto, using(rules::proofs::RefusalLaws::one_refusal), unfolding(rules::specs::Answers::refused_with))]
+fn refused(promises: &[u16], p: u16, refusal: Refusal) -> Answer
+    ensures { result ≡ refused_with (get_or promises.now p 0 - small.base) (refusal_number refusal) }
 {
-    if r == 17 {
-        let b = number_at(promises, PromiseWord::FIRST_BLAMED, p);
-        return Answer::RefusedBlamed(b);
+    match refusal {
+        Refusal::Blamed => Answer::RefusedBlamed(number_at(promises, PromiseWord::FIRST_BLAMED, p)),
+        _ => refusal.into(),
     }
-    Answer::Refused(r)
 }
 
 // The step without refusals 1 and 2, for a caller that has tested the bounds and the tables.
@@ -46,14 +46,14 @@ pub fn raw_set(
     ensures { TakesRaw small (step_set t p) (tables_of tasks.old promises.old)
         report.old result (tables_of tasks.new promises.new) report.new }
 {
-    let r = refusal(tasks, promises, t, p);
-    if r != 0 {
-        return refused(promises, p, r);
+    if let Err(refusal) = check(tasks, promises, t, p) {
+        return refused(promises, p, refusal);
     }
     let w = TaskWord::waits_on(p);
-    let n = collect_word(tasks, w, report, 0);
-    replace_word(tasks, w, TaskWord::READY);
-    put(promises, p as usize, PromiseWord::SET);
+    let waits = |v| v == w;
+    let n = collect_where(tasks, waits, report, 0);
+    replace_where(tasks, waits, TaskWord::READY);
+    put(promises, usize::from(p), PromiseWord::SET);
     let woken = n as u16;
     Answer::Set(woken)
 }
