@@ -4,14 +4,15 @@
 -- Assumes nothing.
 use Prim.Native.Nat.{ℕ, zero, suc, ◌+◌, ◌-◌, ◌≤◌, min}
 use mathlib.Core.List.{List, [], ◌∷◌, ◌++◌}
-use mathlib.Core.Bool.{Bool, true, false, cond}
+use mathlib.Core.Bool.{Bool, true, false}
+use Rattle.std.specs.Prelude.{Option, Some, None}
 use mathlib.Core.Path.{◌≡◌, refl, ap}
 use native.Mathlib.Omega.{arith}
 use lib.ListN.{length, drop, length-append, length-take, length-drop}
 use Rattle.words.specs.Lists.{over, In, top, pop}
 use Rattle.text_writers.specs.Texts.{stretch_of, Every, no_more, one_more}
 use Rattle.text_writers.proofs.WriterLaws.{every_append, every_stretch, every_parted}
-use Rattle.rules.specs.Answers.{laid, number_of, value_in, values_of, word_count}
+use Rattle.rules.specs.Answers.{laid, number_of, words_of, value_in, values_of, word_count}
 use Rattle.rules.specs.declared.Answer.{Answer}
 use Rattle.rules.specs.declared.Part.{Part}
 use Rattle.answer_text.specs.AnswerText.{number_shown, part_shown, fields_in, fields_of}
@@ -32,9 +33,10 @@ pub stretch_of_over : (from n : ℕ) (ws rs : List ℕ) → from + n ≤ length 
 unfolding over
 stretch_of_over from n ws rs h = stretch_of_append from n ws (drop (length ws) rs) h
 
-shown_over : (p : Part) (ws rs : List ℕ) (from : ℕ) → from + p.words ≤ length ws
-    → part_shown p (over ws rs) from ≡ part_shown p ws from
-shown_over p ws rs from h = rw (stretch_of_over from p.words ws rs h)
+shown_over : (o : Option Part) (ws rs : List ℕ) (from : ℕ) → from + words_of o ≤ length ws
+    → part_shown o (over ws rs) from ≡ part_shown o ws from
+shown_over None ws rs from h = refl
+shown_over (Some p) ws rs from h = rw (stretch_of_over from p.words ws rs h)
 
 pub fields_of_over : (a : Answer) (ws rs : List ℕ) → word_count a ≤ length ws
     → fields_of a (over ws rs) ≡ fields_of a ws
@@ -43,20 +45,16 @@ fields_of_over a ws rs h =
     let l = laid a in
     rw (
       shown_over l.first ws rs 0 (omega arith),
-      shown_over l.second ws rs l.first.words (omega arith),
-      shown_over l.third ws rs (l.first.words + l.second.words) (omega arith),
+      shown_over l.second ws rs (words_of l.first) (omega arith),
+      shown_over l.third ws rs (words_of l.first + words_of l.second) (omega arith),
     )
 
 -- ---- how many fields there are
 
-shown_length : (p : Part) (ws : List ℕ) (from : ℕ)
-    → length (part_shown p ws from) ≤ 1 + min p.words (length ws - from)
-shown_length p ws from = go p.told
-  where
-    go : (b : Bool)
-        → length (cond b (p.value ∷ stretch_of ws from p.words) []) ≤ 1 + min p.words (length ws - from)
-    go true = omega (arith, length-take p.words (drop from ws), length-drop from ws)
-    go false = omega arith
+shown_length : (o : Option Part) (ws : List ℕ) (from : ℕ)
+    → length (part_shown o ws from) ≤ 1 + min (words_of o) (length ws - from)
+shown_length None ws from = omega arith
+shown_length (Some p) ws from = omega (arith, length-take p.words (drop from ws), length-drop from ws)
 
 number_length : (b : Bool) (n : ℕ) → length (number_shown b n) ≤ 1
 number_length true n = omega arith
@@ -71,8 +69,8 @@ fields_of_length a ws =
       arith,
       number_length l.refuses l.number,
       shown_length l.first ws 0,
-      shown_length l.second ws l.first.words,
-      shown_length l.third ws (l.first.words + l.second.words),
+      shown_length l.second ws (words_of l.first),
+      shown_length l.third ws (words_of l.first + words_of l.second),
     ))
 
 -- ---- how large they are
@@ -86,13 +84,10 @@ module _ (P : ℕ → Type 0) where
   number_every true n p = one_more p no_more
   number_every false n p = no_more
 
-  shown_every : (p : Part) (from : ℕ) {ws : List ℕ} → Every P (value_in p) → Every P ws → Every P (part_shown p ws from)
-  shown_every p from {ws} v w = go p.told v
-    where
-      go : (b : Bool) → Every P (cond b (p.value ∷ []) [])
-          → Every P (cond b (p.value ∷ stretch_of ws from p.words) [])
-      go true (one_more q u) = one_more q (every_stretch P from p.words w)
-      go false u = no_more
+  shown_every : (o : Option Part) (from : ℕ) {ws : List ℕ} → Every P (value_in o) → Every P ws
+      → Every P (part_shown o ws from)
+  shown_every None from v w = no_more
+  shown_every (Some p) from (one_more q u) w = one_more q (every_stretch P from p.words w)
 
   -- what holds of the answer's number, its values and the words holds of the fields
   pub fields_of_every : (a : Answer) (ws : List ℕ) → P (number_of a) → Every P (values_of a) → Every P ws
@@ -104,5 +99,5 @@ module _ (P : ℕ → Type 0) where
       let (first, second) = every_parted P (value_in l.first) both in
       every_append P
       (every_append P (every_append P (number_every l.refuses l.number n) (shown_every l.first 0 first w))
-      (shown_every l.second l.first.words second w))
-      (shown_every l.third (l.first.words + l.second.words) third w)
+      (shown_every l.second (words_of l.first) second w))
+      (shown_every l.third (words_of l.first + words_of l.second) third w)

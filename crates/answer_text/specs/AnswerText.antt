@@ -7,11 +7,11 @@
 --                       report, whose first words are the answer's own
 --   answer_text n a rs  the whole answer line of line n, with its LF
 -- Assumes nothing.
-use Rattle.std.specs.Prelude.{ℕ, ◌+◌, List, [], ◌∷◌, ◌++◌, Bool, cond, eqb}
+use Rattle.std.specs.Prelude.{ℕ, ◌+◌, List, [], ◌∷◌, ◌++◌, Bool, cond, eqb, Option, Some, None}
 use Rattle.text_fields.specs.Fields.{tab, line_end}
 use Rattle.text_numbers.specs.Numbers.{dec}
 use Rattle.text_writers.specs.Texts.{fields_text, stretch_of}
-use Rattle.rules.specs.Answers.{laid}
+use Rattle.rules.specs.Answers.{laid, words_of}
 use Rattle.rules.specs.declared.Answer.{Answer}
 use Rattle.rules.specs.declared.Part.{Part}
 use Rattle.rules.specs.declared.Layout.{Layout}
@@ -77,13 +77,14 @@ abbrev pub number_shown : Bool → ℕ → List ℕ
 number_shown refuses n = cond refuses (n ∷ []) []
 
 -- a value, and the words of the report that follow it
-abbrev pub part_shown : Part → List ℕ → ℕ → List ℕ
-part_shown p rs from = cond p.told (p.value ∷ stretch_of rs from p.words) []
+abbrev pub part_shown : Option Part → List ℕ → ℕ → List ℕ
+part_shown None rs from = []
+part_shown (Some p) rs from = p.value ∷ stretch_of rs from p.words
 
 unfoldable pub fields_in : Layout → List ℕ → List ℕ
 fields_in l rs =
-    number_shown l.refuses l.number ++ part_shown l.first rs 0 ++ part_shown l.second rs l.first.words
-    ++ part_shown l.third rs (l.first.words + l.second.words)
+    number_shown l.refuses l.number ++ part_shown l.first rs 0 ++ part_shown l.second rs (words_of l.first)
+    ++ part_shown l.third rs (words_of l.first + words_of l.second)
 
 abbrev pub fields_of : Answer → List ℕ → List ℕ
 fields_of a rs = fields_in (laid a) rs

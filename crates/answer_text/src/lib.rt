@@ -3,65 +3,52 @@
 // line's end; every answer has room in 2,048 bytes (proofs/Fits.antt).
 #![tactic(auto)]
 
-ghost use Rattle.std.specs.Prelude.{[], ◌∷◌};
+ghost use Rattle.std.specs.Prelude.{◌≡◌, [], ◌∷◌};
 ghost use Rattle.text_buffers.specs.Buffers.{Wrote, Added};
 ghost use Rattle.text_writers.specs.Texts.{fields_text, stretch_of};
 ghost use Rattle.answer_text.specs.AnswerText.{word_table, looked_up, word_for, number_shown, part_shown};
 ghost use Rattle.answer_text.specs.AnswerText.{fields_in, answer_text};
 
-use answer_words::layout;
+use answer_words::{layout, words_of};
 use rules::{Answer, Layout, Part};
 use text_writers::add_bytes;
 
 // The word of an answer that is no refusal, by its number.
-fn add_told(out: &mut [u8], at: usize, number: u16) -> usize
-    ensures { Added (looked_up word_table number) out.old at out.new result }
+#[tactic(auto, unfolding(crate::specs::AnswerText::looked_up))]
+fn told_word(number: u16) -> &'static [u8]
+    ensures { result.now ≡ looked_up word_table number }
 {
-    if number == 100 {
-        return add_bytes(out, at, b"opened");
+    match number {
+        100 => b"opened",
+        101 => b"made",
+        102 => b"set",
+        103 => b"value",
+        104 => b"blamed",
+        105 => b"waits",
+        106 => b"cycle",
+        107 => b"started",
+        108 => b"ended",
+        _ => b"",
     }
-    if number == 101 {
-        return add_bytes(out, at, b"made");
-    }
-    if number == 102 {
-        return add_bytes(out, at, b"set");
-    }
-    if number == 103 {
-        return add_bytes(out, at, b"value");
-    }
-    if number == 104 {
-        return add_bytes(out, at, b"blamed");
-    }
-    if number == 105 {
-        return add_bytes(out, at, b"waits");
-    }
-    if number == 106 {
-        return add_bytes(out, at, b"cycle");
-    }
-    if number == 107 {
-        return add_bytes(out, at, b"started");
-    }
-    if number == 108 {
-        return add_bytes(out, at, b"ended");
-    }
-    at
 }
 
 // The word of an answer.
-fn add_word(out: &mut [u8], at: usize, refuses: bool, number: u16) -> usize
-    ensures { Added (word_for refuses number) out.old at out.new result }
+#[tactic(auto, unfolding(crate::specs::AnswerText::word_for))]
+fn word_of(refuses: bool, number: u16) -> &'static [u8]
+    ensures { result.now ≡ word_for refuses number }
 {
     if refuses {
-        return add_bytes(out, at, b"refused");
+        b"refused"
+    } else {
+        told_word(number)
     }
-    add_told(out, at, number)
 }
 
 // One number.
 fn add_field(out: &mut [u8], at: usize, n: u16) -> usize
     ensures { Added (fields_text (n ∷ [])) out.old at out.new result }
 {
-    text_writers::add_number(out, at, text_writers::wide(n))
+    text_writers::add_number(out, at, u32::from(n))
 }
 
 // A count, then `words` of the report from `from` on.
@@ -81,14 +68,14 @@ fn add_list(
 }
 
 // A value with its words, which stand in the report from `from` on; nothing, where there is no value.
-fn add_part(out: &mut [u8], at: usize, p: Part, report: &[u16], from: usize) -> usize
-    ensures { Added (fields_text (part_shown p report.now from)) out.old at
+fn add_part(out: &mut [u8], at: usize, part: Option<Part>, report: &[u16], from: usize) -> usize
+    ensures { Added (fields_text (part_shown part report.now from)) out.old at
         out.new result }
 {
-    if p.told {
-        return add_list(out, at, p.value, report, from, p.words as usize);
+    match part {
+        Some(Part { value, words }) => add_list(out, at, value, report, from, words as usize),
+        None => at,
     }
-    at
 }
 
 // The number of a refusal.
@@ -105,8 +92,8 @@ fn add_refusal(out: &mut [u8], at: usize, refuses: bool, number: u16) -> usize
 fn add_fields(out: &mut [u8], at: usize, l: Layout, report: &[u16]) -> usize
     ensures { Added (fields_text (fields_in l report.now)) out.old at out.new result }
 {
-    let second = l.first.words as usize;
-    let third = second + l.second.words as usize;
+    let second = words_of(l.first) as usize;
+    let third = second + words_of(l.second) as usize;
     let n = add_refusal(out, at, l.refuses, l.number);
     let v = add_part(out, n, l.first, report, 0);
     let w = add_part(out, v, l.second, report, second);
@@ -118,9 +105,9 @@ pub fn put_answer(out: &mut [u8], number: u32, a: Answer, report: &[u16]) -> usi
     ensures { Wrote (answer_text number a report.now) out.old out.new result }
 {
     let digits = text_numbers::put_digits(out, number);
-    let tab = text_buffers::add_byte(out, digits, 9);
+    let tab = text_buffers::add_byte(out, digits, b'\t');
     let l = layout(a);
-    let word = add_word(out, tab, l.refuses, l.number);
+    let word = add_bytes(out, tab, word_of(l.refuses, l.number));
     let fields = add_fields(out, word, l, report);
-    text_buffers::add_byte(out, fields, 10)
+    text_buffers::add_byte(out, fields, b'\n')
 }

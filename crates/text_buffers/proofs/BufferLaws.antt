@@ -1,7 +1,7 @@
 -- Laws of specs/Buffers.antt: what room does, how one text follows another, and what a writer that is lent the rest
 -- of a buffer makes of the whole. Each is an equation of lists; nothing is said of loops.
 -- Assumes nothing.
-use Prim.Native.Nat.{ℕ, zero, suc, ◌+◌, ◌-◌, ◌≤◌, ◌<◌}
+use Prim.Native.Nat.{ℕ, zero, suc, ◌+◌, ◌-◌, ◌≤◌, ◌<◌, min}
 use mathlib.Core.List.{List, [], ◌∷◌, ◌++◌, append_assoc, append-nil}
 use mathlib.Core.Path.{◌≡◌, refl, ap, sym, ◌∙◌}
 use native.Mathlib.Omega.{arith}
@@ -13,6 +13,7 @@ use lib.Seq.{length-take-le, set_out, take_all, take-nil, take-append_seam, drop
 use lib.Seq.{drop-cons, set-append_seam, append_snoc}
 use borrow.Rule.Slice.PartMut.{put_mid}
 use Rattle.words.specs.Lists.{over}
+use Rattle.std.proofs.lemmas.List.{take_min}
 use Rattle.words.proofs.ListLaws.{over_length}
 use Rattle.text_buffers.specs.Buffers.{fitting, Wrote, Added}
 
@@ -205,3 +206,12 @@ added_lent t x p at r w =
 pub lent_most : (t x p : List ℕ) (at r : ℕ) → Wrote t (take (length x - at) (drop at x)) p r → at ≤ length x
     → at + r ≤ length x
 lent_most t x p at r w h = added_most (added_lent t x p at r w) h
+
+-- as much of a text as there is room for, at the front
+pub wrote_front : (t o : List ℕ) (n : ℕ) → n ≡ min (length t) (length o) → Wrote t o (take n t ++ drop n o) n
+unfolding over fitting
+wrote_front t o n e =
+    let m : n ≡ min (length o) (length t) = omega (arith, e) in
+    let f : take (length o) t ≡ take n t = rw m (sym (take_min (length o) t)) in
+    let l : length (take n t) ≡ n = rw length-take (omega (arith, e)) in
+    record { count = rw (f, l); text = rw (f, l) }

@@ -12,8 +12,11 @@ use borrow.Author.Tests.{eq-eqb, ne_eqb, eqb-true, lt-ltb, le-ltb}
 use lib.ListN.{length, take, drop, get_or, length-drop, drop_of_length-le}
 use lib.Seq.{drop-cons, drop-drop, length-take-le, take-append_seam, drop-append_seam}
 use Rattle.text_fields.specs.Fields.{tab, run_to, end_from, run_to_tab, field_end, field_at, next_start, part_start}
+use Rattle.text_fields.specs.Fields.{bad_byte}
+use Rattle.text_fields.specs.declared.BadByte.{BadByte}
+use Rattle.std.specs.Prelude.{Result, Err}
 
--- ---- runs, at a place of a line
+-- ---- runs, at a place of a list
 
 module _ (stop : ℕ) (s : List ℕ) (i : ℕ) where
   pub run_to_stop : i < length s → get_or s i 0 ≡ stop → run_to stop (drop i s) ≡ 0
@@ -183,3 +186,9 @@ next_start_end s a {f} {n} h e q =
     let (from, within) = field_end_bounds s a (field_end s a) refl h in
     q ∙ ap (next_start s) k ∙ next_start_is s (field_end s a) within ∙ ap (λ (x : ℕ). x + 1) (field_end_end s a)
     ∙ sym (next_start_is s a h)
+
+-- ---- bad bytes
+
+-- equal answers have their bad byte at the same place
+pub same_place : {A : Type 0} {j k : ℕ} → ◌≡◌ {A = Result A BadByte} (Err (bad_byte j)) (Err (bad_byte k)) → j ≡ k
+same_place {A} {j} {k} e = let p : bad_byte j ≡ bad_byte k = cc in ap (λ (b : BadByte). b.place) p

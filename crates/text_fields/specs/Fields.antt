@@ -10,9 +10,11 @@
 --   Field s at f e      f is the part of s from `at` to e, between two tabs: what it means to be the field at `at`
 --   part_start s at     where in s the part that is handed back for `at` starts
 --   FieldOf line at f   the reference f is that part of the lent line: its bytes, and where they stand
+--   bad_byte k          the bad byte at the place k
 -- Assumes nothing.
 use Rattle.std.specs.Prelude.{ℕ, suc, ◌+◌, List, [], ◌∷◌, ◌++◌, cond, ◌⊎◌, ◌≡◌, length, take, drop, eqb, ltb}
 use Rattle.std.specs.Borrow.{Bor}
+use Rattle.text_fields.specs.declared.BadByte.{BadByte}
 
 abbrev pub tab : ℕ
 tab = 9
@@ -60,3 +62,7 @@ pub record FieldOf (line : Bor (List ℕ)) (at : ℕ) (f : Bor (List ℕ)) : Typ
   pub bytes : f.now ≡ field_at line.now at
   pub memory : f.ref_ptr.0 ≡ line.ref_ptr.0
   pub place : f.ref_ptr.1 ≡ line.ref_ptr.1 + part_start line.now at
+
+-- every bad text is told by the place of its first bad byte (02, request 1)
+abbrev pub bad_byte : ℕ → BadByte
+bad_byte k = record { place = k }

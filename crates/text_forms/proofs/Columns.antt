@@ -9,11 +9,11 @@ use Rattle.text_records.specs.Records.{placed, number_at, with_second, with_firs
 use Rattle.text_records.specs.Records.{of_one, after_kind, after_word, record_of}
 use Rattle.text_lists.specs.Lists.{past_entry, listed_from, list_of}
 use Rattle.text_writers.specs.Texts.{fields_text}
-use Rattle.text_forms.specs.declared.LineForm.TheVariants as F
-use Rattle.text_forms.specs.Judging.{with_list, of_record, line_form}
+use Rattle.std.specs.Prelude.{Err}
+use Rattle.text_forms.specs.Judging.{at_column, with_list, of_record, line_form}
 use Rattle.text_forms.specs.BadLines.{Bad, bad_lines}
 
-pub the_columns : map (λ (b : Bad). line_form b.line) bad_lines ≡ map (λ (b : Bad). F.Bad b.column) bad_lines
+pub the_columns : map (λ (b : Bad). line_form b.line) bad_lines ≡ map (λ (b : Bad). Err (at_column b.column)) bad_lines
 unfolding run_to end_from field_end field_at next_start digit_of digits_from after_zero number_in dec_within dec text_of
     keywords same common larger longest lookup keyword_of placed number_at with_second with_first pair_at last_pair
     of_pair of_list of_one after_kind shape_of after_word record_of past_entry listed_from list_of

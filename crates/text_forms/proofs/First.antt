@@ -10,7 +10,6 @@ use native.Mathlib.Omega.{arith}
 use lib.Dec.{eqb}
 use lib.ListN.{length, take, drop, take-append-drop}
 use lib.Seq.{take-take, length-take-le}
-use Rattle.words.proofs.BoolLaws.{true_is_not_false}
 use Rattle.text_fields.specs.Fields.{tab, run_to_tab, field_end, field_at, next_start, run_to, end_from}
 use Rattle.text_fields.proofs.FieldLaws.{first_field, run_to_tab_most, run_to_tab_after_field, first_field_front}
 use Rattle.text_fields.proofs.FieldLaws.{first_field_rest, next_start_is}
@@ -21,7 +20,9 @@ use Rattle.step_kinds.specs.declared.Shape.{Shape}
 use Rattle.step_kinds.specs.declared.Shape.TheVariants as H
 use Rattle.text_keywords.specs.declared.Keyword.{Keyword}
 use Rattle.text_keywords.specs.declared.Keyword.TheVariants as W
-use Rattle.text_keywords.proofs.Theorems.{open_on, step_on, proper, keyword_of_text, keyword_of_is, keyword_of_other}
+use Rattle.std.specs.Prelude.{Ok, Err}
+use Rattle.text_fields.specs.declared.BadByte.{BadByte}
+use Rattle.text_keywords.proofs.Theorems.{open_on, step_on, keyword_of_text, keyword_of_is, keyword_of_other}
 use Rattle.text_forms.specs.Forms.{takes_shape, takes, BadAt}
 use Rattle.text_forms.proofs.Parsed.{Numbers, Parsed}
 use Rattle.text_forms.proofs.Place.{At, Over, zeros, numbers_tabbed}
@@ -37,13 +38,11 @@ text_whole (W.Step K.Set) = refl
 text_whole (W.Step K.Get) = refl
 text_whole (W.Step K.Async) = refl
 text_whole (W.Step K.End) = refl
-text_whole (W.Other k) = refl
 
 pub in_table : (w : Keyword) (n : ℕ) → takes w n ≡ true → On w keywords
 unfolding takes
 in_table W.Open n e = open_on
 in_table (W.Step k) n e = step_on k
-in_table (W.Other k) n e = true_is_not_false (sym e)
 
 -- each word of the table takes some number of numbers
 unfoldable pub least : Shape → ℕ
@@ -61,7 +60,6 @@ all_take : (w : Keyword) → On w keywords → (n : ℕ) × (takes w n ≡ true)
 unfolding takes
 all_take W.Open i = (2, refl)
 all_take (W.Step k) i = (least (shape_of k), least_taken (shape_of k))
-all_take (W.Other k) i = absurd (proper (W.Other k) i k refl)
 
 -- ---- one byte more
 
@@ -103,7 +101,7 @@ first_field_lem s w rest e z = ap first_field e ∙ first_field_front (text_of w
 parsed_field : (s : List ℕ) (f : Parsed s) → first_field s ≡ text_of f.word
 parsed_field s f = first_field_lem s f.word f.rest f.text (numbers_tabbed f.count f.rest f.numbers)
 
-word_over : (s : List ℕ) (w : Keyword) (n : ℕ) → takes w n ≡ true → keyword_of (field_at s 0) ≡ w
+word_over : (s : List ℕ) (w : Keyword) (n : ℕ) → takes w n ≡ true → keyword_of (field_at s 0) ≡ Ok w
     → Over Parsed s (field_end s 0) (takes w)
 unfolding field_end end_from field_at
 word_over s w n t e = record {
@@ -138,28 +136,32 @@ word_over s w n t e = record {
         let r : x ≡ f.rest = sym (first_field_rest (text_of w) x (text_whole w) z)
         ∙ ap (λ (y : List ℕ). drop (run_to_tab y) y) g
         ∙ first_field_rest (text_of f.word) f.rest (text_whole f.word) tabs in
-        let v : f.word ≡ w = sym (keyword_of_text f.word (in_table f.word f.count f.taken))
-        ∙ ap keyword_of (sym h) ∙ keyword_of_text w (in_table w n t) in (
+        let o = sym (keyword_of_text f.word (in_table f.word f.count f.taken))
+        ∙ ap keyword_of (sym h) ∙ keyword_of_text w (in_table w n t) in
+        let v : f.word ≡ w = cc in (
           f.count,
           subst (λ (u : Keyword). takes u f.count ≡ true) v f.taken,
           subst (Numbers f.count) (sym r) f.numbers,
         )
 
-pub word_well : (s : List ℕ) (w : Keyword) (n : ℕ) → takes w n ≡ true → keyword_of (field_at s 0) ≡ w
+pub word_well : (s : List ℕ) (w : Keyword) (n : ℕ) → takes w n ≡ true → keyword_of (field_at s 0) ≡ Ok w
     → At Parsed s (next_start s 0) (takes w)
 word_well s w n t e = record { e = field_end s 0; next = next_start_is s 0 (omega arith); over = word_over s w n t e }
 
-pub word_bad : (s : List ℕ) (k : ℕ) → keyword_of (field_at s 0) ≡ W.Other k → BadAt Parsed s k
+pub word_bad : (s : List ℕ) (b : BadByte) → keyword_of (field_at s 0) ≡ Err b → BadAt Parsed s b.place
 unfolding field_at
-word_bad s k e = record {
+word_bad s b e = record {
   within = omega (arith, short, run_to_tab_most s);
   start = begin st.start;
   stop = λ h x f. no f (beyond k s x (text_of f.word) h (parsed_field (take (suc k) s ++ x) f));
   not_one = λ f. st.none f.word (in_table f.word f.count f.taken) (parsed_field s f);
 }
   where
+    k : ℕ
+    k = b.place
+
     st : StopsAt (first_field s) k
-    st = keyword_of_other (first_field s) k e
+    st = keyword_of_other (first_field s) b e
 
     short : k ≤ run_to_tab s
     short = omega (arith, st.within, length-take-le (run_to_tab s) s (run_to_tab_most s))

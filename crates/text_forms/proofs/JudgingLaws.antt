@@ -17,14 +17,16 @@ use Rattle.text_records.specs.Records.{record_of}
 use Rattle.text_records.specs.declared.LineRecord.{LineRecord}
 use Rattle.text_records.specs.declared.LineRecord.TheVariants as R
 use Rattle.text_lists.specs.Lists.{list_of}
-use Rattle.text_lists.specs.declared.Listed.TheVariants as E
+use Rattle.std.specs.Prelude.{Result, Ok, Err}
+use Rattle.text_fields.specs.declared.BadByte.{BadByte}
 use Rattle.text_forms.specs.declared.LineForm.{LineForm}
 use Rattle.text_forms.specs.declared.LineForm.TheVariants as F
-use Rattle.text_forms.specs.Judging.{with_list, of_record, line_form, entries_in, entries_of, InLine, Judged}
+use Rattle.text_forms.specs.declared.BadLine.{BadLine}
+use Rattle.text_forms.specs.Judging.{at_column, with_list, of_record, line_form, entries_in, entries_of, InLine, Judged}
 use Rattle.text_forms.proofs.Column.{verdict, verdict_column}
 
 module _ (s : List ℕ) where
-  pub line_form_long : longest_line < length s → line_form s ≡ F.Bad longest_line
+  pub line_form_long : longest_line < length s → line_form s ≡ Err (at_column longest_line)
   unfolding line_form
   line_form_long h = rw (lt-ltb longest_line (length s) h)
 
@@ -43,12 +45,13 @@ module _ (s : List ℕ) where
 
   -- ---- the ways out
 
-  pub judged_long : (o : List ℕ) → longest_line < length s → Judged s o o (F.Bad longest_line)
+  pub judged_long : (o : List ℕ) → longest_line < length s → Judged s o o (Err (at_column longest_line))
   judged_long o h =
       record { form = sym (line_form_long h); words = sym (rw (entries_of_long h, fitting_none) (over_none o)) }
 
-  module _ (o : List ℕ) (r : LineRecord) (h : length s ≤ longest_line) (q : record_of s ≡ r) where
-    pub judged_list : {x : List ℕ} {f : LineForm} → f ≡ of_record s r → x ≡ over (fitting (entries_in s r) o) o
+  module _ (o : List ℕ) (r : Result LineRecord BadByte) (h : length s ≤ longest_line) (q : record_of s ≡ r) where
+    pub judged_list : {x : List ℕ} {f : Result LineForm BadLine} → f ≡ of_record s r
+        → x ≡ over (fitting (entries_in s r) o) o
         → Judged s o x f
     judged_list e p =
         record { form = e ∙ sym (rw (line_form_within h, q)); words = p ∙ sym (rw (entries_of_within h, q)) }
@@ -59,23 +62,24 @@ module _ (s : List ℕ) where
 
 -- ---- the list
 
-pub with_list_all : (k : Kind) (t c e n : ℕ) (s : List ℕ) → list_of (drop e s) ≡ E.All n
-    → F.Step k t c n ≡ with_list k t c e (list_of (drop e s))
+pub with_list_all : (k : Kind) (t c e n : ℕ) (s : List ℕ) → list_of (drop e s) ≡ Ok n
+    → Ok (F.Step k t c n) ≡ with_list k t c e (list_of (drop e s))
 unfolding with_list
 with_list_all k t c e n s q = rw q
 
-pub with_list_bad : (k : Kind) (t c e j : ℕ) (s : List ℕ) → list_of (drop e s) ≡ E.Bad j
-    → F.Bad (e + j) ≡ with_list k t c e (list_of (drop e s))
+pub with_list_bad : (k : Kind) (t c e : ℕ) (j : BadByte) (s : List ℕ) → list_of (drop e s) ≡ Err j
+    → Err (at_column (e + j.place)) ≡ with_list k t c e (list_of (drop e s))
 unfolding with_list
 with_list_bad k t c e j s q = rw q
 
 -- ---- the column
 
 -- a line within its limit goes bad at a column within it
-pub record_in_line : (s : List ℕ) (r : LineRecord) → length s ≤ longest_line → record_of s ≡ r → InLine (of_record s r)
+pub record_in_line : (s : List ℕ) (r : Result LineRecord BadByte) → length s ≤ longest_line → record_of s ≡ r
+    → InLine (of_record s r)
 record_in_line s r h q c e = omega (arith, (verdict_column c (verdict s) (ap (of_record s) q ∙ e)).within)
 
-pub list_in_line : (s : List ℕ) (k : Kind) (t c e : ℕ) → length s ≤ longest_line → record_of s ≡ R.Listing k t c e
+pub list_in_line : (s : List ℕ) (k : Kind) (t c e : ℕ) → length s ≤ longest_line → record_of s ≡ Ok (R.Listing k t c e)
     → InLine (with_list k t c e (list_of (drop e s)))
 unfolding of_record
-list_in_line s k t c e h q = record_in_line s (R.Listing k t c e) h q
+list_in_line s k t c e h q = record_in_line s (Ok (R.Listing k t c e)) h q

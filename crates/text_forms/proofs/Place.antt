@@ -13,19 +13,19 @@ use borrow.Author.Tests.{lt-ltb, le-ltb}
 use lib.ListN.{length, take, drop, length-drop, take-append-drop}
 use lib.Seq.{take-take, take_all, drop-drop, take-add, length-take-le}
 use Rattle.words.proofs.BoolLaws.{true_is_not_false}
+use Rattle.std.specs.Prelude.{Result, Ok, Err}
+use Rattle.text_fields.specs.Fields.{bad_byte}
+use Rattle.text_fields.specs.declared.BadByte.{BadByte}
 use Rattle.text_fields.specs.Fields.{run_to_tab, field_end, field_at, next_start, run_to, end_from}
 use Rattle.text_numbers.specs.Numbers.{largest, number_in, dec}
-use Rattle.text_numbers.specs.declared.Num.{Num}
-use Rattle.text_numbers.specs.declared.Num.TheVariants as N
 use Rattle.text_numbers.proofs.PrintLaws.{number_in_print, number_in_printed}
-use Rattle.text_numbers.proofs.NumberLaws.{number_in_bad_within}
+use Rattle.text_numbers.proofs.NumberLaws.{number_in_bad_within, never}
 use Rattle.text_records.specs.Records.{end_before, placed, number_at}
-use Rattle.text_records.specs.declared.Numbered.{Numbered}
-use Rattle.text_records.specs.declared.Numbered.TheVariants as S
 use Rattle.text_forms.specs.Forms.{BadAt}
 use Rattle.text_forms.proofs.Parsed.{Numbers}
 use Rattle.text_fields.proofs.FieldLaws.{first_field, run_to_tab_most, run_to_tab_tab, run_to_tab_after_field}
-use Rattle.text_fields.proofs.FieldLaws.{run_to_tab_none}
+use Rattle.text_fields.proofs.FieldLaws.{run_to_tab_none, same_place}
+use Rattle.text_records.proofs.RecordLaws.{same_next}
 use Rattle.text_fields.proofs.FieldLaws.{first_field_front, next_start_is}
 use Rattle.text_forms.proofs.NumberFields.{dec_whole, dec_split, number_in_stable, Start, number_in_bad_start}
 
@@ -125,7 +125,7 @@ module _ (L : List ℕ → Type 0) (s : List ℕ) (e : ℕ) (ok : ℕ → Bool) 
         step = let q : suc e ≡ e + 1 + 0 = omega arith in ap (λ (i : ℕ). take i s) q ∙ front 0
 
     -- a number, and then a place after a field
-    number_well : (v : ℕ) → number_in (first_field rest) ≡ N.Is v → Over L s (e + 1 + run_to_tab rest) (λ k. ok (suc k))
+    number_well : (v : ℕ) → number_in (first_field rest) ≡ Ok v → Over L s (e + 1 + run_to_tab rest) (λ k. ok (suc k))
     number_well v n = record {
       within = omega (arith, run_to_tab_most rest, length-drop (e + 1) s);
       tabbed = ap run_to_tab (sym (drop-drop (run_to_tab rest) (e + 1) s)) ∙ run_to_tab_after_field rest;
@@ -149,7 +149,8 @@ module _ (L : List ℕ → Type 0) (s : List ℕ) (e : ℕ) (ok : ℕ → Bool) 
             (k, o, subst (Numbers k) (sym w.1) t)
 
     -- a number that goes bad
-    number_bad : (k : ℕ) → ok (suc k) ≡ true → (j : ℕ) → number_in (first_field rest) ≡ N.Bad j → j ≤ run_to_tab rest
+    number_bad : (k : ℕ) → ok (suc k) ≡ true → (j : ℕ) → number_in (first_field rest) ≡ Err (bad_byte j)
+        → j ≤ run_to_tab rest
         → BadAt L s (e + 1 + j)
     number_bad k o j n w = record {
       within = omega (arith, run_to_tab_most rest, length-drop (e + 1) s);
@@ -176,19 +177,18 @@ module _ (L : List ℕ → Type 0) (s : List ℕ) (e : ℕ) (ok : ℕ → Bool) 
                   (a.to (suc k) (9 ∷ (dec b.number ++ y)) o (b.number, y, b.most, refl, z)),
             )
 
-        no : (r : List ℕ) → number_in (first_field r) ≡ N.Bad j → L (take e s ++ 9 ∷ r) → ⊥
+        no : (r : List ℕ) → number_in (first_field r) ≡ Err (bad_byte j) → L (take e s ++ 9 ∷ r) → ⊥
         no r n l =
             let (k, o, m, y, b, q, t) = numbered r l in
             let f : first_field r ≡ dec m =
             ap first_field q ∙ first_field_front (dec m) y (dec_whole m b) (numbers_tabbed k y t) in
-            let c : N.Is m ≡ N.Bad j = sym (number_in_print m b) ∙ ap number_in (sym f) ∙ n in
-            let z : ◌≡◌ {A = ℕ} 0 1 = cc in
-            omega arith
+            let c = sym (number_in_print m b) ∙ ap number_in (sym f) ∙ n in
+            never c
 
 -- ---- what the reader of one number says
 
-number_told : (s : List ℕ) (a : ℕ) (r : Numbered) → number_at s a ≡ r → Dec (length s < a)
-    → ((length s < a) × (r ≡ S.Bad (length s)))
+number_told : (s : List ℕ) (a : ℕ) (r : Result (ℕ × ℕ) BadByte) → number_at s a ≡ r → Dec (length s < a)
+    → ((length s < a) × (r ≡ Err (bad_byte (length s))))
     ⊎ ((a ≤ length s) × (r ≡ placed a (next_start s a) (number_in (field_at s a))))
 unfolding number_at
 number_told s a r q (yes h) = inl (h, sym q ∙ rw (lt-ltb (length s) a h))
@@ -204,46 +204,49 @@ pub record At (L : List ℕ → Type 0) (s : List ℕ) (a : ℕ) (ok : ℕ → B
   pub over : Over L s e ok
 
 module _ (L : List ℕ → Type 0) (s : List ℕ) (e : ℕ) (ok : ℕ → Bool) (o : Over L s e ok) where
-  over_well : (v n : ℕ) → number_at s (e + 1) ≡ S.Is v n → At L s n (λ k. ok (suc k))
+  over_well : (v n : ℕ) → number_at s (e + 1) ≡ Ok (v, n) → At L s n (λ k. ok (suc k))
   unfolding placed field_end end_from field_at
-  over_well v n q = go (number_told s (e + 1) (S.Is v n) q (dec_lt (length s) (e + 1)))
+  over_well v n q = go (number_told s (e + 1) (Ok (v, n)) q (dec_lt (length s) (e + 1)))
     where
-      at : e + 1 ≤ length s → (m : Num) → number_in (first_field (drop (e + 1) s)) ≡ m
-          → S.Is v n ≡ placed (e + 1) (next_start s (e + 1)) m → At L s n (λ k. ok (suc k))
-      at h (N.Is w) p r =
-          let z : n ≡ next_start s (e + 1) = cc in record {
+      at : e + 1 ≤ length s → (m : Result ℕ BadByte) → number_in (first_field (drop (e + 1) s)) ≡ m
+          → ◌≡◌ {A = Result (ℕ × ℕ) BadByte} (Ok (v, n)) (placed (e + 1) (next_start s (e + 1)) m)
+          → At L s n (λ k. ok (suc k))
+      at h (Ok w) p r =
+          let z : n ≡ next_start s (e + 1) = same_next r in record {
             e = e + 1 + run_to_tab (drop (e + 1) s);
             next = z ∙ next_start_is s (e + 1) h;
             over = number_well L s e ok o (omega arith) w p;
           }
-      at h (N.Bad j) p r = let z : ◌≡◌ {A = ℕ} 0 1 = cc in absurd (omega arith)
+      at h (Err j) p r = absurd (cc)
 
-      go : ((length s < e + 1) × (S.Is v n ≡ S.Bad (length s)))
-          ⊎ ((e + 1 ≤ length s) × (S.Is v n ≡ placed (e + 1) (next_start s (e + 1)) (number_in (field_at s (e + 1)))))
+      go : ((length s < e + 1) × (◌≡◌ {A = Result (ℕ × ℕ) BadByte} (Ok (v, n)) (Err (bad_byte (length s)))))
+          ⊎ ((e + 1 ≤ length s) × (◌≡◌ {A = Result (ℕ × ℕ) BadByte} (Ok (v, n))
+          (placed (e + 1) (next_start s (e + 1)) (number_in (field_at s (e + 1))))))
           → At L s n (λ k. ok (suc k))
-      go (inl (h, r)) = let z : ◌≡◌ {A = ℕ} 0 1 = cc in absurd (omega arith)
+      go (inl (h, r)) = absurd (cc)
       go (inr (h, r)) = at h (number_in (first_field (drop (e + 1) s))) refl r
 
-  over_bad : (k : ℕ) → ok (suc k) ≡ true → (length s ≤ e → ok 0 ≡ false) → (c : ℕ) → number_at s (e + 1) ≡ S.Bad c
-      → BadAt L s c
+  over_bad : (k : ℕ) → ok (suc k) ≡ true → (length s ≤ e → ok 0 ≡ false) → (c : BadByte) → number_at s (e + 1) ≡ Err c
+      → BadAt L s c.place
   unfolding placed field_at
-  over_bad k t f c q = go (number_told s (e + 1) (S.Bad c) q (dec_lt (length s) (e + 1)))
+  over_bad k t f c q = go (number_told s (e + 1) (Err c) q (dec_lt (length s) (e + 1)))
     where
-      at : e + 1 ≤ length s → (m : Num) → number_in (first_field (drop (e + 1) s)) ≡ m
-          → S.Bad c ≡ placed (e + 1) (next_start s (e + 1)) m → BadAt L s c
-      at h (N.Is w) p r = let z : ◌≡◌ {A = ℕ} 0 1 = cc in absurd (omega arith)
-      at h (N.Bad j) p r =
-          let z : c ≡ e + 1 + j = cc in
+      at : e + 1 ≤ length s → (m : Result ℕ BadByte) → number_in (first_field (drop (e + 1) s)) ≡ m
+          → ◌≡◌ {A = Result (ℕ × ℕ) BadByte} (Err c) (placed (e + 1) (next_start s (e + 1)) m) → BadAt L s c.place
+      at h (Ok w) p r = absurd (cc)
+      at h (Err j) p r =
+          let z : c.place ≡ e + 1 + j.place = same_place r in
           subst (BadAt L s) (sym z)
-          (number_bad L s e ok o (omega arith) k t j p
+          (number_bad L s e ok o (omega arith) k t j.place p
           (omega (arith, length_field (drop (e + 1) s), number_in_bad_within (first_field (drop (e + 1) s)) j p)))
 
-      go : ((length s < e + 1) × (S.Bad c ≡ S.Bad (length s)))
-          ⊎ ((e + 1 ≤ length s) × (S.Bad c ≡ placed (e + 1) (next_start s (e + 1)) (number_in (field_at s (e + 1)))))
-          → BadAt L s c
+      go : ((length s < e + 1) × (◌≡◌ {A = Result (ℕ × ℕ) BadByte} (Err c) (Err (bad_byte (length s)))))
+          ⊎ ((e + 1 ≤ length s) × (◌≡◌ {A = Result (ℕ × ℕ) BadByte} (Err c)
+          (placed (e + 1) (next_start s (e + 1)) (number_in (field_at s (e + 1))))))
+          → BadAt L s c.place
       go (inl (h, r)) =
-          let y : c ≡ length s = cc in
-          let z : e ≡ c = omega (arith, o.within) in
+          let y : c.place ≡ length s = same_place r in
+          let z : e ≡ c.place = omega (arith, o.within) in
           subst (BadAt L s) z (end_bad L s e ok o (omega arith) (suc k) t (f (omega arith)))
       go (inr (h, r)) = at h (number_in (first_field (drop (e + 1) s))) refl r
 
@@ -257,11 +260,11 @@ module _ (L : List ℕ → Type 0) (s : List ℕ) (a : ℕ) (ok : ℕ → Bool) 
       let k : p.e ≡ end_before a = omega (arith, p.next) in
       subst (BadAt L s) k (tab_bad L s p.e ok p.over (omega (arith, p.next)) o z)
 
-  pub next_well : (v n : ℕ) → number_at s a ≡ S.Is v n → At L s n (λ k. ok (suc k))
-  next_well v n q = over_well L s p.e ok p.over v n (subst (λ (i : ℕ). number_at s i ≡ S.Is v n) p.next q)
+  pub next_well : (v n : ℕ) → number_at s a ≡ Ok (v, n) → At L s n (λ k. ok (suc k))
+  next_well v n q = over_well L s p.e ok p.over v n (subst (λ (i : ℕ). number_at s i ≡ Ok (v, n)) p.next q)
 
-  pub next_bad : (k : ℕ) → ok (suc k) ≡ true → (length s < a → ok 0 ≡ false) → (c : ℕ) → number_at s a ≡ S.Bad c
-      → BadAt L s c
+  pub next_bad : (k : ℕ) → ok (suc k) ≡ true → (length s < a → ok 0 ≡ false) → (c : BadByte) → number_at s a ≡ Err c
+      → BadAt L s c.place
   next_bad k o f c q =
       over_bad L s p.e ok p.over k o (λ h. f (omega (arith, p.next))) c
-      (subst (λ (i : ℕ). number_at s i ≡ S.Bad c) p.next q)
+      (subst (λ (i : ℕ). number_at s i ≡ Err c) p.next q)

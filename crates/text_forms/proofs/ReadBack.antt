@@ -9,7 +9,8 @@ use native.Mathlib.Omega.{arith}
 use borrow.Author.Tests.{lt-ltb, le-ltb, eqb-true, leb-true}
 use lib.ListN.{length, drop, length-drop}
 use lib.Seq.{drop-drop, take-append_seam, drop-append_seam}
-use Rattle.words.proofs.BoolLaws.{true_is_not_false}
+use Rattle.std.specs.Prelude.{Result, Ok}
+use Rattle.text_fields.specs.declared.BadByte.{BadByte}
 use Rattle.text_fields.specs.Fields.{tab, run_to_tab, field_end, field_at, run_to, end_from}
 use Rattle.text_fields.proofs.FieldLaws.{first_field, run_to_tab_append, first_field_rest, next_start_is}
 use Rattle.text_numbers.specs.Numbers.{largest, dec}
@@ -25,13 +26,12 @@ use Rattle.text_keywords.proofs.Theorems.{keyword_of_text}
 use Rattle.text_records.specs.Records.{end_before, placed, number_at, with_second, with_first, pair_at, last_pair}
 use Rattle.text_records.specs.Records.{of_pair}
 use Rattle.text_records.specs.Records.{of_list, of_one, after_kind, after_word, record_of}
-use Rattle.text_records.specs.declared.Numbered.TheVariants as S
-use Rattle.text_records.specs.declared.NumberPair.TheVariants as P
 use Rattle.text_records.specs.declared.LineRecord.{LineRecord}
 use Rattle.text_records.specs.declared.LineRecord.TheVariants as R
 use Rattle.text_lists.specs.Lists.{with_entry, past_entry, values_from, listed_from, list_entries, list_of}
-use Rattle.text_lists.specs.declared.Listed.TheVariants as E
 use Rattle.text_writers.specs.Texts.{fields_text, one_more}
+use Rattle.text_forms.specs.declared.LineForm.{LineForm}
+use Rattle.text_forms.specs.declared.LineForm.TheVariants as F
 use Rattle.text_forms.specs.Forms.{takes_shape, takes, AllSmall, Line}
 use Rattle.text_forms.specs.Judging.{keyword_in, numbers_by, numbers_in, with_list, of_record, entries_in}
 use Rattle.text_forms.proofs.NumberFields.{dec_whole}
@@ -57,7 +57,7 @@ module _ (s : List ℕ) (e v : ℕ) (rest : List ℕ) (h : v ≤ largest) (z : r
   runs : run_to_tab (drop (e + 1) s) ≡ length (dec v)
   runs = ap run_to_tab behind_tab ∙ run_to_tab_append (dec v) rest (dec_whole v h) ∙ omega arith
 
-  pub next_read : number_at s (e + 1) ≡ S.Is v (e + 1 + length (dec v) + 1)
+  pub next_read : number_at s (e + 1) ≡ Ok (v, e + 1 + length (dec v) + 1)
   unfolding number_at field_at field_end end_from placed
   next_read =
       rw (
@@ -88,14 +88,14 @@ end_of e (n ∷ ns) = end_of (e + 1 + length (dec n)) ns
 
 module _ (s : List ℕ) where
   one_read : (k : Kind) (e t : ℕ) → t ≤ largest → drop e s ≡ fields_text (t ∷ [])
-      → of_one k s (number_at s (e + 1)) ≡ R.Plain k t 0
+      → of_one k s (number_at s (e + 1)) ≡ Ok (R.Plain k t 0)
   unfolding fields_text of_one
   one_read k e t h q =
       let o = over_at s (e + 1 + length (dec t)) (next_rest s e t [] h (fields_tabbed []) q) in
       rw (next_read s e t [] h (fields_tabbed []) q, lt-ltb (length s) (e + 1 + length (dec t) + 1) o)
 
   module _ (e a b : ℕ) (ns : List ℕ) (h : a ≤ largest) (k : b ≤ largest) (q : drop e s ≡ fields_text (a ∷ b ∷ ns)) where
-    pub pair_read : pair_at s (e + 1) ≡ P.Is a b (end_of e (a ∷ b ∷ []) + 1)
+    pub pair_read : pair_at s (e + 1) ≡ Ok (a, b, end_of e (a ∷ b ∷ []) + 1)
     unfolding fields_text pair_at with_first with_second
     pair_read =
         let z = fields_tabbed (b ∷ ns) in
@@ -112,7 +112,7 @@ module _ (s : List ℕ) where
         (next_rest s e a (fields_text (b ∷ ns)) h (fields_tabbed (b ∷ ns)) q)
 
   pub two_read : (f : ℕ → ℕ → LineRecord) (e a b : ℕ) → a ≤ largest → b ≤ largest → drop e s ≡ fields_text (a ∷ b ∷ [])
-      → of_pair f (last_pair s (pair_at s (e + 1))) ≡ f a b
+      → of_pair f (last_pair s (pair_at s (e + 1))) ≡ Ok (f a b)
   unfolding fields_text last_pair of_pair
   two_read f e a b h k q =
       let o = over_at s (end_of e (a ∷ b ∷ [])) (pair_rest e a b [] h k q) in
@@ -133,23 +133,23 @@ module _ (s : List ℕ) where
       (values_read f (e + 1 + length (dec v)) vs (omega arith) a (next_rest s e v (fields_text vs) h z q)))
 
   listed_read : (f n e : ℕ) (vs : List ℕ) → length s ≤ f + e → AllSmall vs → drop e s ≡ fields_text vs
-      → listed_from f n s (e + 1) ≡ E.All (n + length vs)
+      → listed_from f n s (e + 1) ≡ Ok (n + length vs)
   unfolding fields_text listed_from past_entry
-  listed_read zero n e [] l a q = ap E.All (omega arith)
+  listed_read zero n e [] l a q = ap Ok (omega arith)
   listed_read zero n e (v ∷ vs) l (one_more h a) q =
       absurd (omega (arith, there s e v (fields_text vs) h (fields_tabbed vs) q))
-  listed_read (suc f) n e [] l a q = rw (lt-ltb (length s) (e + 1) (over_at s e q)) (ap E.All (omega arith))
+  listed_read (suc f) n e [] l a q = rw (lt-ltb (length s) (e + 1) (over_at s e q)) (ap Ok (omega arith))
   listed_read (suc f) n e (v ∷ vs) l (one_more h a) q =
       let z = fields_tabbed vs in
       rw (le-ltb (length s) (e + 1) (there s e v (fields_text vs) h z q), next_read s e v (fields_text vs) h z q)
       (listed_read f (n + 1) (e + 1 + length (dec v)) vs (omega arith) a (next_rest s e v (fields_text vs) h z q)
-      ∙ ap E.All (omega arith))
+      ∙ ap Ok (omega arith))
 
 -- a whole list
-pub list_read : (vs : List ℕ) → AllSmall vs → list_of (fields_text vs) ≡ E.All (length vs)
+pub list_read : (vs : List ℕ) → AllSmall vs → list_of (fields_text vs) ≡ Ok (length vs)
 unfolding list_of
 list_read vs a = listed_read (fields_text vs) (length (fields_text vs)) 0 0 vs (omega arith) a refl
-    ∙ ap E.All (omega arith)
+    ∙ ap Ok (omega arith)
 
 pub entries_read : (vs : List ℕ) → AllSmall vs → list_entries (fields_text vs) ≡ vs
 unfolding list_entries
@@ -181,12 +181,14 @@ small_tail : {n : ℕ} {ns : List ℕ} → AllSmall (n ∷ ns) → AllSmall ns
 small_tail (one_more h a) = a
 
 -- what a record's form says
-pub record Says (s : List ℕ) (r : LineRecord) (w : Keyword) (ns : List ℕ) : Type 0 where
-  pub word : keyword_in (of_record s r) ≡ w
-  pub numbers : numbers_in (of_record s r) (entries_in s r) ≡ ns
+pub record Says (s : List ℕ) (r : Result LineRecord BadByte) (w : Keyword) (ns : List ℕ) : Type 0 where
+  pub form : LineForm
+  pub answer : of_record s r ≡ Ok form
+  pub word : keyword_in form ≡ w
+  pub numbers : numbers_in form (entries_in s r) ≡ ns
 
 module _ (s : List ℕ) (e : ℕ) (ns : List ℕ) (a : AllSmall ns) (q : drop e s ≡ fields_text ns) where
-  two_says : (w : Keyword) (f : ℕ → ℕ → LineRecord) → ((x y : ℕ) → Says s (f x y) w (x ∷ y ∷ [])) → length ns ≡ 2
+  two_says : (w : Keyword) (f : ℕ → ℕ → LineRecord) → ((x y : ℕ) → Says s (Ok (f x y)) w (x ∷ y ∷ [])) → length ns ≡ 2
       → Says s (of_pair f (last_pair s (pair_at s (e + 1)))) w ns
   two_says w f says l =
       let (x, y, p) = two_of ns l in
@@ -198,7 +200,7 @@ module _ (s : List ℕ) (e : ℕ) (ns : List ℕ) (a : AllSmall ns) (q : drop e 
   one_says k z l =
       let (t, p) = one_of ns l in
       rw (p, one_read s k e t (small_head (subst AllSmall p a)) (q ∙ ap fields_text p))
-      (record { word = refl; numbers = rw z })
+      (record { form = F.Step k t 0 0; answer = refl; word = refl; numbers = rw z })
 
   list_says : (k : Kind) → shape_of k ≡ H.List → 2 ≤ length ns → Says s (of_list k (pair_at s (e + 1))) (W.Step k) ns
   unfolding of_list of_record with_list keyword_in numbers_in numbers_by entries_in
@@ -209,27 +211,41 @@ module _ (s : List ℕ) (e : ℕ) (ns : List ℕ) (a : AllSmall ns) (q : drop e 
       let t = q ∙ ap fields_text p in
       let d = pair_rest s e x y vs (small_head b) (small_head (small_tail b)) t in
       rw (p, pair_read s e x y vs (small_head b) (small_head (small_tail b)) t, end_before_lem (end_of e (x ∷ y ∷ [])))
-      (record { word = rw (d, list_read vs c); numbers = rw (d, list_read vs c, entries_read vs c, z) })
+      (record {
+        form = F.Step k x y (length vs);
+        answer = rw (d, list_read vs c);
+        word = refl;
+        numbers = rw (d, entries_read vs c, z);
+      })
 
   by_kind : (k : Kind) (h : Shape) → shape_of k ≡ h → takes_shape h (length ns) ≡ true
       → Says s (after_kind s (e + 1) k h) (W.Step k) ns
   unfolding after_kind takes_shape of_record keyword_in numbers_in numbers_by entries_in
   by_kind k H.One z t = one_says k z (eqb-true _ _ t)
-  by_kind k H.Two z t = two_says (W.Step k) (R.Plain k) (λ x y. record { word = refl; numbers = rw z }) (eqb-true _ _ t)
+  by_kind k H.Two z t = two_says (W.Step k) (R.Plain k) (λ x y. record {
+    form = F.Step k x y 0;
+    answer = refl;
+    word = refl;
+    numbers = rw z;
+  }) (eqb-true _ _ t)
   by_kind k H.List z t = list_says k z (leb-true _ _ t)
 
-  by_word : (w : Keyword) → takes w (length ns) ≡ true → Says s (after_word s (e + 1) w) w ns
+  by_word : (w : Keyword) → takes w (length ns) ≡ true → Says s (after_word s (e + 1) (Ok w)) w ns
   unfolding after_word takes of_record keyword_in numbers_in entries_in
-  by_word W.Open t = two_says W.Open R.Open (λ x y. record { word = refl; numbers = refl }) (eqb-true _ _ t)
+  by_word W.Open t = two_says W.Open R.Open (λ x y. record {
+    form = F.Open x y;
+    answer = refl;
+    word = refl;
+    numbers = refl;
+  }) (eqb-true _ _ t)
   by_word (W.Step k) t = by_kind k (shape_of k) refl t
-  by_word (W.Other k) t = true_is_not_false (sym t)
 
 -- THE LINE OF A WORD AND NUMBERS IS READ AS THAT WORD AND THOSE NUMBERS
 pub line_read : (w : Keyword) (ns s : List ℕ) → Line w ns s → Says s (record_of s) w ns
 unfolding record_of field_at field_end end_from
 line_read w ns s l =
     let f = first_field_lem s w (fields_text ns) l.text (fields_tabbed ns) in
-    let k : keyword_of (first_field s) ≡ w = ap keyword_of f ∙ keyword_of_text w (in_table w (length ns) l.taken) in
+    let k : keyword_of (first_field s) ≡ Ok w = ap keyword_of f ∙ keyword_of_text w (in_table w (length ns) l.taken) in
     let d : drop (0 + run_to_tab s) s ≡ fields_text ns =
     let z : 0 + run_to_tab s ≡ run_to_tab s = omega arith in
     ap (λ (i : ℕ). drop i s) z ∙ ap (λ (r : List ℕ). drop (run_to_tab r) r) l.text

@@ -10,7 +10,7 @@
 --   BadAt L s c   c is the column where s stops being the start of a line of L
 --   ColumnOf s c  c is the column of the line s, which is bad or too long
 -- Assumes nothing.
-use Rattle.std.specs.Prelude.{ℕ, suc, ◌≤◌, ◌<◌, List, ◌++◌, Bool, true, false, ◌≡◌, length, take, eqb, leb}
+use Rattle.std.specs.Prelude.{ℕ, suc, ◌≤◌, ◌<◌, List, ◌++◌, Bool, true, ◌≡◌, length, take, eqb, leb}
 use Rattle.words.specs.Words.{longest_line}
 use Rattle.text_numbers.specs.Numbers.{largest}
 use Rattle.text_writers.specs.Texts.{fields_text, Every}
@@ -30,7 +30,6 @@ takes_shape H.List n = leb 2 n
 unfoldable pub takes : Keyword → ℕ → Bool
 takes W.Open n = eqb n 2
 takes (W.Step k) n = takes_shape (shape_of k) n
-takes (W.Other k) n = false
 
 -- "A number .. is at most 65535"
 abbrev pub AllSmall : List ℕ → Type 0

@@ -1,85 +1,78 @@
--- Laws of specs/Keywords.antt that the code cites: for `same` and `common` one for each way out of a step of a loop
--- over both lists, and for `longest` one for a word more. What the definitions say of a whole field is in
--- LookupLaws.antt.
+-- Laws of specs/Keywords.antt that the code cites: what an iterator over two lists counts, and one word more of the
+-- table. What the definitions say of a whole field is in LookupLaws.antt.
 -- Assumes nothing.
 use Prim.Native.Nat.{ℕ, suc, ◌+◌, ◌≤◌, ◌<◌}
 use mathlib.Core.List.{List, [], ◌∷◌}
-use mathlib.Core.Bool.{Bool, true, false, cond}
-use mathlib.Core.Path.{◌≡◌, refl, ap}
-use native.Mathlib.Numerals.{add-one}
+use mathlib.Core.Bool.{Bool, true, false}
+use mathlib.Core.Path.{◌≡◌, refl, ap, sym}
+use native.Mathlib.Omega.{arith}
 use lib.Dec.{eqb}
-use borrow.Author.Tests.{eq-eqb, ne_eqb}
+use native.Mathlib.Numerals.{add-one}
 use lib.ListN.{length, drop, get_or, drop_of_length-le}
 use lib.Seq.{drop-cons}
+use Rattle.std.specs.Prelude.{max, Ok, Err}
+use Rattle.text_fields.specs.Fields.{bad_byte}
+use Rattle.text_keywords.proofs.LookupLaws.{same_refl, same_true}
+use Rattle.std.specs.List.{zip, take_while}
+use Rattle.std.proofs.lemmas.Grind.{common_steps}
 use Rattle.text_keywords.specs.Keywords.{same, common, larger, longest, lookup, text_of}
 use Rattle.text_keywords.specs.declared.Keyword.{Keyword}
 
-cond_false : (t : Bool) → cond t false false ≡ false
-cond_false true = refl
-cond_false false = refl
+one_more : (n : ℕ) → 1 + n ≡ suc n
+one_more n = omega arith
 
-pub same_lengths : (a b : List ℕ) → (length a ≡ length b → ⊥) → same a b ≡ false
-unfolding same
-same_lengths [] [] h = absurd (h refl)
-same_lengths [] (y ∷ b) h = refl
-same_lengths (x ∷ a) [] h = refl
-same_lengths (x ∷ a) (y ∷ b) h = rw (same_lengths a b (λ e. h (ap suc e))) (cond_false (eqb x y))
-
-module _ (a b : List ℕ) (i : ℕ) where
-  pub same_end : length a ≤ i → length b ≤ i → same (drop i a) (drop i b) ≡ true
-  unfolding same
-  same_end h k = rw (drop_of_length-le a h, drop_of_length-le b k)
-
-  pub same_stop : i < length a → i < length b → (get_or a i 0 ≡ get_or b i 0 → ⊥) → same (drop i a) (drop i b) ≡ false
-  unfolding same
-  same_stop h k n = rw (drop-cons a i 0, drop-cons b i 0, ne_eqb _ _ n)
-
-  pub same_go : i < length a → i < length b → get_or a i 0 ≡ get_or b i 0
-      → same (drop i a) (drop i b) ≡ same (drop (i + 1) a) (drop (i + 1) b)
-  unfolding same
-  same_go h k e = rw (add-one i, drop-cons a i 0, drop-cons b i 0, eq-eqb _ _ e)
-
-common_nil : (s : List ℕ) → common s [] ≡ 0
+-- what two lists begin with alike, as an iterator over both counts it
+pub common_zip : (a b : List ℕ) → length (take_while (λ (p : ℕ × ℕ). eqb p.0 p.1) (zip a b)) ≡ common a b
 unfolding common
-common_nil [] = refl
-common_nil (a ∷ s) = refl
+common_zip [] b = refl
+common_zip (x ∷ a) [] = refl
+common_zip (x ∷ a) (y ∷ b) = go (eqb x y) refl (common_zip a b)
+  where
+    go : (t : Bool) → eqb x y ≡ t → length (take_while (λ (p : ℕ × ℕ). eqb p.0 p.1) (zip a b)) ≡ common a b
+        → length (take_while (λ (p : ℕ × ℕ). eqb p.0 p.1) (zip (x ∷ a) (y ∷ b))) ≡ common (x ∷ a) (y ∷ b)
+    go true e ih = rw (e, one_more) (ap suc ih)
+    go false e ih = rw e
 
--- Laws of `common`: one for each way out of a step of the loop.
-module _ (a b : List ℕ) (i : ℕ) where
-  pub common_end : length a ≤ i → common (drop i a) (drop i b) ≡ 0
-  unfolding common
-  common_end h = rw (drop_of_length-le a h)
+-- ---- the table, from its place i on
 
-  pub common_short : length b ≤ i → common (drop i a) (drop i b) ≡ 0
-  common_short k = rw (drop_of_length-le b k) (common_nil (drop i a))
+larger_max : (a b : ℕ) → larger a b ≡ max a b
+unfolding larger
+larger_max a b = grind (arith, common_steps)
 
-  pub common_stop : i < length a → i < length b → (get_or a i 0 ≡ get_or b i 0 → ⊥) → common (drop i a) (drop i b) ≡ 0
-  unfolding common
-  common_stop h k n = rw (drop-cons a i 0, drop-cons b i 0, ne_eqb _ _ n)
+pub longest_start : (m : ℕ) → larger m 0 ≡ m
+longest_start m = grind (arith, common_steps, larger_max m 0)
 
-  pub common_go : i < length a → i < length b → get_or a i 0 ≡ get_or b i 0
-      → common (drop i a) (drop i b) ≡ suc (common (drop (i + 1) a) (drop (i + 1) b))
-  unfolding common
-  common_go h k e = rw (drop-cons a i 0, drop-cons b i 0, eq-eqb _ _ e, add-one i)
+module _ (s : List ℕ) (ws : List Keyword) (i : ℕ) where
+  -- no word is left
+  pub longest_end : (m : ℕ) → length ws ≤ i → larger (longest s (drop i ws)) m ≡ m
+  unfolding longest
+  longest_end m h = rw drop_of_length-le (grind (arith, common_steps, larger_max 0 m))
 
--- ---- the table
-
--- how far a field goes along with one word more
-pub longest_more : (s : List ℕ) (w : Keyword) (ws : List Keyword) (k r m : ℕ) → m ≡ larger k r
-    → k ≡ common s (text_of w) → r ≡ longest s ws → m ≡ longest s (w ∷ ws)
-unfolding longest
-longest_more s w ws k r m e f g = rw (e, f, g)
-
-pub longest_none : (s : List ℕ) → 0 ≡ longest s []
-unfolding longest
-longest_none s = refl
-
--- a field is a word of the table, or looked up in the rest of it
-module _ (s : List ℕ) (k : ℕ) (w : Keyword) (ws : List Keyword) where
-  pub lookup_here : same s (text_of w) ≡ true → lookup s k (w ∷ ws) ≡ w
+  pub lookup_end : (k : ℕ) → length ws ≤ i → lookup s k (drop i ws) ≡ Err (bad_byte k)
   unfolding lookup
-  lookup_here e = rw e
+  lookup_end k h = rw drop_of_length-le
 
-  pub lookup_past : same s (text_of w) ≡ false → lookup s k (w ∷ ws) ≡ lookup s k ws
-  unfolding lookup
-  lookup_past e = rw e
+  -- the field along with one word more
+  module _ (d : Keyword) (h : i < length ws) where
+    pub longest_more : (n m x : ℕ) → n ≡ common s (text_of (get_or ws i d)) → x ≡ max n m
+        → larger (longest s (drop (i + 1) ws)) x ≡ larger (longest s (drop i ws)) m
+    unfolding longest
+    longest_more n m x e f =
+        let r = longest s (drop (suc i) ws) in
+        rw (add-one i, drop-cons ws i d, ← e, f, larger_max r (max n m), larger_max n r, larger_max (max n r) m)
+        (grind (arith, common_steps))
+
+    -- the field is that word, or looked up in the rest
+    pub lookup_here : (k : ℕ) → text_of (get_or ws i d) ≡ s → lookup s k (drop i ws) ≡ Ok (get_or ws i d)
+    unfolding lookup
+    lookup_here k e = rw (drop-cons ws i d, e, same_refl s)
+
+    pub lookup_past : (k : ℕ) → (text_of (get_or ws i d) ≡ s → ⊥)
+        → lookup s k (drop i ws) ≡ lookup s k (drop (i + 1) ws)
+    unfolding lookup
+    lookup_past k n = rw (add-one i, drop-cons ws i d) (go (same s (text_of (get_or ws i d))) refl)
+      where
+        go : (t : Bool) → same s (text_of (get_or ws i d)) ≡ t
+            → lookup s k (get_or ws i d ∷ drop (suc i) ws) ≡ lookup s k (drop (suc i) ws)
+        go true e = absurd (n (sym (same_true s (text_of (get_or ws i d)) e)))
+        go false e = rw e

@@ -12,7 +12,9 @@ use borrow.Author.Tests.{eq-eqb, eqb-true, ltb-true, ltb-false}
 use lib.ListN.{length, take}
 use Rattle.words.proofs.BoolLaws.{true_is_not_false}
 use Rattle.text_keywords.specs.declared.Keyword.{Keyword}
-use Rattle.text_keywords.specs.declared.Keyword.TheVariants as W
+use Rattle.std.specs.Prelude.{Ok, Err}
+use Rattle.text_fields.specs.declared.BadByte.{BadByte}
+use Rattle.text_fields.specs.Fields.{bad_byte}
 use Rattle.text_keywords.specs.Keywords.{On, here, later, same, common, larger, text_of, longest, lookup}
 
 -- ---- two lists alike
@@ -56,20 +58,15 @@ common_take (x ∷ a) (y ∷ b) = go (eqb x y) refl (common_take a b)
 
 -- ---- the table read
 
-pub lookup_is : (s : List ℕ) (k : ℕ) (ws : List Keyword) (w : Keyword) → lookup s k ws ≡ w
-    → ((j : ℕ) → w ≡ W.Other j → ⊥) → s ≡ text_of w
+pub lookup_is : (s : List ℕ) (k : ℕ) (ws : List Keyword) (w : Keyword) → lookup s k ws ≡ Ok w → s ≡ text_of w
 unfolding lookup
-lookup_is s k [] w e h = absurd (h k (sym e))
-lookup_is s k (v ∷ ws) w e h = go (same s (text_of v)) refl e (λ q. lookup_is s k ws w q h)
+lookup_is s k [] w e = absurd (cc)
+lookup_is s k (v ∷ ws) w e = go (same s (text_of v)) refl e (λ q. lookup_is s k ws w q)
   where
-    go : (t : Bool) → same s (text_of v) ≡ t → lookup s k (v ∷ ws) ≡ w → (lookup s k ws ≡ w → s ≡ text_of w)
+    go : (t : Bool) → same s (text_of v) ≡ t → lookup s k (v ∷ ws) ≡ Ok w → (lookup s k ws ≡ Ok w → s ≡ text_of w)
         → s ≡ text_of w
-    go true p e ih = same_true s (text_of v) p ∙ ap text_of (rw p at e)
+    go true p e ih = let r = rw p at e in let q : v ≡ w = cc in same_true s (text_of v) p ∙ ap text_of q
     go false p e ih = ih (rw p at e)
-
--- a table of words alone
-abbrev pub Proper : List Keyword → Type 0
-Proper ws = (w : Keyword) → On w ws → (j : ℕ) → w ≡ W.Other j → ⊥
 
 put_at : (v : Keyword) (ws : List Keyword) (s : List ℕ) → same s (text_of v) ≡ false
     → ((w : Keyword) → On w ws → same s (text_of w) ≡ false) → (w : Keyword) → On w (v ∷ ws)
@@ -77,20 +74,20 @@ put_at : (v : Keyword) (ws : List Keyword) (s : List ℕ) → same s (text_of v)
 put_at v ws s p f w here = p
 put_at v ws s p f w (later i) = f w i
 
-pub lookup_other : (s : List ℕ) (k : ℕ) (ws : List Keyword) (j : ℕ) → Proper ws → lookup s k ws ≡ W.Other j
-    → (k ≡ j) × ((w : Keyword) → On w ws → same s (text_of w) ≡ false)
+pub lookup_other : (s : List ℕ) (k : ℕ) (ws : List Keyword) (b : BadByte) → lookup s k ws ≡ Err b
+    → (bad_byte k ≡ b) × ((w : Keyword) → On w ws → same s (text_of w) ≡ false)
 unfolding lookup
-lookup_other s k [] j h e = (cc, λ w i. elim i [ ])
-lookup_other s k (v ∷ ws) j h e = go (same s (text_of v)) refl e (lookup_other s k ws j (λ w i. h w (later i)))
+lookup_other s k [] b e = (cc, λ w i. elim i [ ])
+lookup_other s k (v ∷ ws) b e = go (same s (text_of v)) refl e (lookup_other s k ws b)
   where
     put : same s (text_of v) ≡ false → ((w : Keyword) → On w ws → same s (text_of w) ≡ false) → (w : Keyword)
         → On w (v ∷ ws) → same s (text_of w) ≡ false
     put p f w i = put_at v ws s p f w i
 
-    go : (t : Bool) → same s (text_of v) ≡ t → lookup s k (v ∷ ws) ≡ W.Other j
-        → (lookup s k ws ≡ W.Other j → (k ≡ j) × ((w : Keyword) → On w ws → same s (text_of w) ≡ false))
-        → (k ≡ j) × ((w : Keyword) → On w (v ∷ ws) → same s (text_of w) ≡ false)
-    go true p e ih = absurd (h v here j (rw p at e))
+    go : (t : Bool) → same s (text_of v) ≡ t → lookup s k (v ∷ ws) ≡ Err b
+        → (lookup s k ws ≡ Err b → (bad_byte k ≡ b) × ((w : Keyword) → On w ws → same s (text_of w) ≡ false))
+        → (bad_byte k ≡ b) × ((w : Keyword) → On w (v ∷ ws) → same s (text_of w) ≡ false)
+    go true p e ih = let r = rw p at e in absurd (cc)
     go false p e ih = let r = ih (rw p at e) in (r.0, put p r.1)
 
 pub longest_most : (s : List ℕ) {w : Keyword} {ws : List Keyword} → On w ws → common s (text_of w) ≤ longest s ws

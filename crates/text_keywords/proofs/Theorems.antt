@@ -3,26 +3,27 @@
 -- Assumes nothing.
 use Prim.Native.Nat.{ℕ, zero, suc, ◌≤◌}
 use mathlib.Core.List.{List, [], ◌∷◌}
-use mathlib.Core.Bool.{true}
+use mathlib.Core.Bool.{false}
 use mathlib.Core.Logic.{◌⊎◌, inl, inr}
 use mathlib.Core.Path.{◌≡◌, refl, ap, sym, subst, ◌∙◌}
 use native.Mathlib.Omega.{arith}
-use borrow.Author.Tests.{eq-eqb, ltb-true}
-use lib.Dec.{ltb}
+use borrow.Author.Tests.{eq-eqb}
 use lib.ListN.{length, take}
 use Rattle.words.proofs.BoolLaws.{true_is_not_false}
 use Rattle.step_kinds.specs.declared.Kind.{Kind}
 use Rattle.step_kinds.specs.declared.Kind.TheVariants.{New, Set, Get, Async, End}
 use Rattle.text_keywords.specs.declared.Keyword.{Keyword}
 use Rattle.text_keywords.specs.declared.Keyword.TheVariants as W
+use Rattle.std.specs.Prelude.{Result, Ok, Err}
+use Rattle.text_fields.specs.declared.BadByte.{BadByte}
 use Rattle.text_keywords.specs.Keywords.{On, here, later, StopsAt, same, common, text_of, keywords, longest}
 use Rattle.text_keywords.specs.Keywords.{lookup, keyword_of}
-use Rattle.text_keywords.proofs.LookupLaws.{Proper, same_refl, common_most, common_take, lookup_is}
+use Rattle.text_keywords.proofs.LookupLaws.{same_refl, common_most, common_take, lookup_is}
 use Rattle.text_keywords.proofs.LookupLaws.{lookup_other, longest_most, longest_is}
 
 -- ---- the table
 
--- no word of the table is `Other`, and each is found by its text
+-- each word of the table is found by its text
 data Each (P : Keyword → Type 0) : List Keyword → Type 0 where
   nil : Each P []
   cons : {w : Keyword} {ws : List Keyword} → P w → Each P ws → Each P (w ∷ ws)
@@ -31,32 +32,20 @@ each_at : {P : Keyword → Type 0} {w : Keyword} {ws : List Keyword} → On w ws
 each_at here (cons p l) = p
 each_at (later i) (cons p l) = each_at i l
 
-found : Each (λ w. keyword_of (text_of w) ≡ w) keywords
+found : Each (λ w. keyword_of (text_of w) ≡ Ok w) keywords
 unfolding keywords text_of keyword_of lookup same
 found = cons refl (cons refl (cons refl (cons refl (cons refl (cons refl nil)))))
 
 -- a word's text is told as that word
-pub keyword_of_text : (w : Keyword) → On w keywords → keyword_of (text_of w) ≡ w
+pub keyword_of_text : (w : Keyword) → On w keywords → keyword_of (text_of w) ≡ Ok w
 keyword_of_text w i = each_at i found
-
-other_empty : (k : ℕ) → length (text_of (W.Other k)) ≡ 0
-unfolding text_of
-other_empty k = refl
-
-long : Each (λ w. ltb 0 (length (text_of w)) ≡ true) keywords
-unfolding keywords text_of
-long = cons refl (cons refl (cons refl (cons refl (cons refl (cons refl nil)))))
-
-pub proper : Proper keywords
-proper w i j e = let h = ltb-true 0 (length (text_of w)) (each_at i long) in let z : length (text_of w) ≡ 0 =
-    ap (λ (v : Keyword). length (text_of v)) e ∙ other_empty j in omega arith
 
 -- ---- the word
 
 -- what is told as a word is that word's text
-pub keyword_of_is : (s : List ℕ) (w : Keyword) → On w keywords → keyword_of s ≡ w → s ≡ text_of w
+pub keyword_of_is : (s : List ℕ) (w : Keyword) → On w keywords → keyword_of s ≡ Ok w → s ≡ text_of w
 unfolding keyword_of
-keyword_of_is s w i e = lookup_is s (longest s keywords) keywords w e (proper w i)
+keyword_of_is s w i e = lookup_is s (longest s keywords) keywords w e
 
 -- ---- the place
 
@@ -83,15 +72,17 @@ step_on Get = later (later (later here))
 step_on Async = later (later (later (later here)))
 step_on End = later (later (later (later (later here))))
 
-pub keyword_of_other : (s : List ℕ) (k : ℕ) → keyword_of s ≡ W.Other k → StopsAt s k
+pub keyword_of_other : (s : List ℕ) (b : BadByte) → keyword_of s ≡ Err b → StopsAt s b.place
 unfolding keyword_of
-keyword_of_other s k e =
-    let r = lookup_other s (longest s keywords) keywords k proper e in
+keyword_of_other s b e =
+    let other = lookup_other s (longest s keywords) keywords b e in
+    let r : (longest s keywords ≡ b.place) × ((w : Keyword) → On w keywords → same s (text_of w) ≡ false) =
+    (ap (λ (x : BadByte). x.place) other.0, other.1) in
     record {
       within = subst (λ (i : ℕ). i ≤ length s) r.0 (most (longest_is s keywords));
       start = subst (λ (i : ℕ). (w : Keyword) × On w keywords × (take i s ≡ take i (text_of w))) r.0
           (begin (longest_is s keywords));
-      stop = λ h w i q. omega (arith, r.0, longest_most s i, common_least (suc k) s (text_of w) h q);
+      stop = λ h w i q. omega (arith, r.0, longest_most s i, common_least (suc b.place) s (text_of w) h q);
       none = λ w i q. true_is_not_false (sym (same_refl (text_of w)) ∙ ap (λ (y : List ℕ). same y (text_of w)) (sym q)
           ∙ r.1 w i);
     }
@@ -110,5 +101,5 @@ keyword_of_other s k e =
 
 -- ---- 01, "How much each contract must say": any two outcomes that the contract allows coincide
 
-pub keyword_of_unique : (s : List ℕ) {p q : Keyword} → p ≡ keyword_of s → q ≡ keyword_of s → p ≡ q
+pub keyword_of_unique : (s : List ℕ) {p q : Result Keyword BadByte} → p ≡ keyword_of s → q ≡ keyword_of s → p ≡ q
 keyword_of_unique s e f = e ∙ sym f

@@ -8,12 +8,15 @@
 --   common s t    how many bytes two lists begin with alike
 --   longest s ws  how far s goes along with some word of the table ws
 --   On w ws       the word w stands in the table ws
---   keyword_of s  the word that the field s is, or `Other k` with the place of its first bad byte
+--   keyword_of s  the word that the field s is, or its first bad byte
 --   StopsAt s k   what that place is: k bytes of s begin some word, and no more do
 -- Assumes nothing.
 use Rattle.std.specs.Prelude.{ℕ, suc, ◌≤◌, ◌<◌, List, [], ◌∷◌, Bool, true, false, cond, ◌≡◌, eqb, ltb, length, take}
+use Rattle.std.specs.Prelude.{Result, Ok, Err}
 use Rattle.text_keywords.specs.declared.Keyword.{Keyword}
-use Rattle.text_keywords.specs.declared.Keyword.TheVariants.{Open, Step, Other}
+use Rattle.text_keywords.specs.declared.Keyword.TheVariants.{Open, Step}
+use Rattle.text_fields.specs.Fields.{bad_byte}
+use Rattle.text_fields.specs.declared.BadByte.{BadByte}
 use Rattle.step_kinds.specs.declared.Kind.TheVariants.{New, Set, Get, Async, End}
 
 -- A NEW WORD is one line here, and its place in `keywords`.
@@ -24,7 +27,6 @@ text_of (Step Set) = 115 ∷ 101 ∷ 116 ∷ []
 text_of (Step Get) = 103 ∷ 101 ∷ 116 ∷ []
 text_of (Step Async) = 97 ∷ 115 ∷ 121 ∷ 110 ∷ 99 ∷ []
 text_of (Step End) = 101 ∷ 110 ∷ 100 ∷ []
-text_of (Other k) = []
 
 unfoldable pub keywords : List Keyword
 keywords = Open ∷ Step New ∷ Step Set ∷ Step Get ∷ Step Async ∷ Step End ∷ []
@@ -48,12 +50,12 @@ unfoldable pub longest : List ℕ → List Keyword → ℕ
 longest s [] = 0
 longest s (w ∷ ws) = larger (common s (text_of w)) (longest s ws)
 
--- the word of the table that s is; `Other k`, if it is none
-unfoldable pub lookup : List ℕ → ℕ → List Keyword → Keyword
-lookup s k [] = Other k
-lookup s k (w ∷ ws) = cond (same s (text_of w)) w (lookup s k ws)
+-- the word of the table that s is; if it is none, the byte at the place k is bad
+unfoldable pub lookup : List ℕ → ℕ → List Keyword → Result Keyword BadByte
+lookup s k [] = Err (bad_byte k)
+lookup s k (w ∷ ws) = cond (same s (text_of w)) (Ok w) (lookup s k ws)
 
-unfoldable pub keyword_of : List ℕ → Keyword
+unfoldable pub keyword_of : List ℕ → Result Keyword BadByte
 keyword_of s = lookup s (longest s keywords) keywords
 
 -- a word stands first in a table, or later in it

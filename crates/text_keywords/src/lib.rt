@@ -1,94 +1,74 @@
 // The words that start a line.
 #![tactic(auto)]
 
-ghost use Rattle.std.specs.Prelude.{◌≡◌};
-ghost use Rattle.text_keywords.specs.Keywords.{keyword_of, larger, longest, keywords, common as common_of};
-ghost use Rattle.text_keywords.specs.Keywords.{same as same_of};
+ghost use Rattle.std.specs.Prelude.{◌≡◌, ◌==◌, length};
+ghost use Rattle.std.specs.List.{zip, take_while};
+ghost use Rattle.text_keywords.specs.Keywords.{text_of, keyword_of, longest, keywords};
 
 use step_kinds::Kind;
+use text_fields::BadByte;
 
-// The words: `open`, and that of each kind of step; or none of them, and then how many bytes of the field begin one.
+// The words: `open`, and that of each kind of step.
 #[derive(Clone, Copy)]
 pub enum Keyword {
     Open,
     Step(Kind),
-    Other(usize),
 }
 
-// Whether two byte strings are the same.
-fn same(a: &[u8], b: &[u8]) -> bool
-    ensures { result ≡ same_of a.now b.now }
-{
-    if a.len() != b.len() {
-        return false;
-    }
-    let mut i = 0;
-    while i < a.len() {
-        if a[i] != b[i] {
-            return false;
+impl Keyword {
+    const ALL: [Keyword; 6] = [
+        Keyword::Open,
+        Keyword::Step(Kind::New),
+        Keyword::Step(Kind::Set),
+        Keyword::Step(Kind::Get),
+        Keyword::Step(Kind::Async),
+        Keyword::Step(Kind::End),
+    ];
+
+    // The bytes of the word.
+    #[tactic(auto, unfolding(crate::specs::Keywords::text_of))]
+    fn text(self) -> &'static [u8]
+        ensures { result.now ≡ text_of self }
+    {
+        match self {
+            Keyword::Open => b"open",
+            Keyword::Step(Kind::New) => b"new",
+            Keyword::Step(Kind::Set) => b"set",
+            Keyword::Step(Kind::Get) => b"get",
+            Keyword::Step(Kind::Async) => b"async",
+            Keyword::Step(Kind::End) => b"end",
         }
-        i += 1;
     }
-    true
 }
 
 // How many bytes two byte strings begin with alike.
 fn common(a: &[u8], b: &[u8]) -> usize
-    ensures { result ≡ common_of a.now b.now }
+    ensures { result ≡ length (take_while (λ p. p.0 == p.1) (zip a.now b.now)) }
 {
-    let mut i = 0;
-    while i < a.len() {
-        if b.len() <= i {
-            return i;
-        }
-        if a[i] != b[i] {
-            return i;
-        }
-        i += 1;
-    }
-    i
-}
-
-// The larger of two numbers.
-fn most(a: usize, b: usize) -> usize
-    ensures { result ≡ larger a b }
-{
-    if a < b { b } else { a }
+    a.iter().zip(b).take_while(|(x, y)| x == y).count()
 }
 
 // How far the field goes along with some word.
 fn furthest(field: &[u8]) -> usize
     ensures { result ≡ longest field.now keywords }
 {
-    let a = most(common(field, b"end"), 0);
-    let b = most(common(field, b"async"), a);
-    let c = most(common(field, b"get"), b);
-    let d = most(common(field, b"set"), c);
-    let e = most(common(field, b"new"), d);
-    most(common(field, b"open"), e)
+    let mut most = 0;
+    for word in Keyword::ALL {
+        most = common(field, word.text()).max(most);
+    }
+    most
 }
 
-// The word that the field is.
-pub fn keyword_of(field: &[u8]) -> Keyword
+// The word that the field is; or the byte with which it stops being the start of any.
+pub fn keyword_of(field: &[u8]) -> Result<Keyword, BadByte>
     ensures { result ≡ keyword_of field.now }
 {
-    if same(field, b"open") {
-        return Keyword::Open;
+    for keyword in Keyword::ALL {
+        if keyword.text() == field {
+            return Ok(keyword);
+        }
     }
-    if same(field, b"new") {
-        return Keyword::Step(Kind::New);
-    }
-    if same(field, b"set") {
-        return Keyword::Step(Kind::Set);
-    }
-    if same(field, b"get") {
-        return Keyword::Step(Kind::Get);
-    }
-    if same(field, b"async") {
-        return Keyword::Step(Kind::Async);
-    }
-    if same(field, b"end") {
-        return Keyword::Step(Kind::End);
-    }
-    Keyword::Other(furthest(field))
+    Err(BadByte {
+        place: furthest(field),
+    })
 }

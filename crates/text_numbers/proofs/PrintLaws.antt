@@ -13,7 +13,7 @@ use lib.Dec.{ltb, leb, eqb}
 use lib.ListN.{length, length-append}
 use Rattle.text_buffers.specs.Buffers.{Wrote, Added}
 use Rattle.text_buffers.proofs.BufferLaws.{wrote_none, wrote_added, added_added}
-use Rattle.text_numbers.specs.declared.Num.TheVariants.{Is}
+use Rattle.std.specs.Prelude.{Ok}
 use Rattle.text_numbers.specs.Numbers.{largest, digit_of, digits_from, after_zero, number_in, dec_within, dec}
 use Rattle.text_numbers.specs.Numbers.{last_three}
 use Rattle.text_numbers.proofs.NumberLaws.{never}
@@ -68,7 +68,7 @@ unfolding lim
 reads zero n = λ t p m l. absurd (omega arith)
 reads (suc f) n = reads_step f n (reads f (n / 10)) (dec_lt n 10)
 
-pub number_in_print : (n : ℕ) → n ≤ largest → number_in (dec n) ≡ Is n
+pub number_in_print : (n : ℕ) → n ≤ largest → number_in (dec n) ≡ Ok n
 unfolding dec lim digits_from number_in after_zero dec_within
 number_in_print zero m = refl
 number_in_print (suc n) m =
@@ -106,10 +106,10 @@ dec_snoc v d p m h =
     rw (dec_more 9 (v * 10 + d) (omega arith), q, r, fuel 8 v (omega arith))
 
 prints_step : (b v k n : ℕ) (s : List ℕ)
-    → (digits_from (v * 10 + digit_of b) (k + 1) s ≡ Is n → v * 10 + digit_of b ≤ largest
+    → (digits_from (v * 10 + digit_of b) (k + 1) s ≡ Ok n → v * 10 + digit_of b ≤ largest
     → (n ≤ largest) × (dec (v * 10 + digit_of b) ++ s ≡ dec n))
     → (x : Bool) → ltb (digit_of b) 10 ≡ x → (y : Bool) → leb (v * 10 + digit_of b) largest ≡ y
-    → 0 < v → v ≤ largest → digits_from v k (b ∷ s) ≡ Is n → (n ≤ largest) × (dec v ++ (b ∷ s) ≡ dec n)
+    → 0 < v → v ≤ largest → digits_from v k (b ∷ s) ≡ Ok n → (n ≤ largest) × (dec v ++ (b ∷ s) ≡ dec n)
 unfolding digits_from
 prints_step b v k n s ih false d y o p m e = never (sym (rw d at e))
 prints_step b v k n s ih true d false o p m e = never (sym (rw (d, o) at e))
@@ -121,7 +121,7 @@ prints_step b v k n s ih true d true o p m e =
           ∙ ap (λ (l : List ℕ). l ++ s) (sym (dec_snoc v (digit_of b) p m h)) ∙ r.1),
     )
 
-prints : (s : List ℕ) (v k n : ℕ) → 0 < v → v ≤ largest → digits_from v k s ≡ Is n
+prints : (s : List ℕ) (v k n : ℕ) → 0 < v → v ≤ largest → digits_from v k s ≡ Ok n
     → (n ≤ largest) × (dec v ++ s ≡ dec n)
 unfolding digits_from
 prints [] v k n p m e = let q : v ≡ n = cc in (omega arith, append-nil (dec v) ∙ ap dec q)
@@ -130,7 +130,7 @@ prints (b ∷ s) v k n p m e =
     (ltb (digit_of b) 10) refl
     (leb (v * 10 + digit_of b) largest) refl p m e
 
-first_step : (b n : ℕ) (s : List ℕ) (x : Bool) → ltb (digit_of b) 10 ≡ x → (b ≡ 48 → ⊥) → digits_from 0 0 (b ∷ s) ≡ Is n
+first_step : (b n : ℕ) (s : List ℕ) (x : Bool) → ltb (digit_of b) 10 ≡ x → (b ≡ 48 → ⊥) → digits_from 0 0 (b ∷ s) ≡ Ok n
     → (n ≤ largest) × (b ∷ s ≡ dec n)
 unfolding digits_from dec
 first_step b n s false d z e = never (sym (rw d at e))
@@ -142,17 +142,17 @@ first_step b n s true d z e =
     let r = prints s (digit_of b) (0 + 1) n nz (omega arith) (rw (d, v, o) at e) in
     (r.0, sym (ap (λ (l : List ℕ). l ++ s) (dec_one 9 (digit_of b) h ∙ ap (λ (j : ℕ). j ∷ []) (byte_of b h))) ∙ r.1)
 
-number_in_printed_step : (b n : ℕ) (s : List ℕ) (x : Bool) → eqb b 48 ≡ x → number_in (b ∷ s) ≡ Is n
+number_in_printed_step : (b n : ℕ) (s : List ℕ) (x : Bool) → eqb b 48 ≡ x → number_in (b ∷ s) ≡ Ok n
     → (n ≤ largest) × (b ∷ s ≡ dec n)
 unfolding number_in after_zero dec dec_within
 number_in_printed_step b n s false z e = first_step b n s (ltb (digit_of b) 10) refl (eqb-false b 48 z) (rw z at e)
 number_in_printed_step b n s true z e = zero_case s (rw z at e)
   where
-    zero_case : (s : List ℕ) → after_zero s ≡ Is n → (n ≤ largest) × (b ∷ s ≡ dec n)
+    zero_case : (s : List ℕ) → after_zero s ≡ Ok n → (n ≤ largest) × (b ∷ s ≡ dec n)
     zero_case [] e = let q : 0 ≡ n = cc in (omega arith, rw (← q, eqb-true b 48 z))
     zero_case (a ∷ s) e = never (sym e)
 
-pub number_in_printed : (s : List ℕ) (n : ℕ) → number_in s ≡ Is n → (n ≤ largest) × (s ≡ dec n)
+pub number_in_printed : (s : List ℕ) (n : ℕ) → number_in s ≡ Ok n → (n ≤ largest) × (s ≡ dec n)
 unfolding number_in
 number_in_printed [] n e = never (sym e)
 number_in_printed (b ∷ s) n e = number_in_printed_step b n s (eqb b 48) refl e

@@ -1,53 +1,52 @@
 // A number in a line: read from its field, and written in its digits.
 #![tactic(auto)]
 
-ghost use Rattle.std.specs.Prelude.{◌≡◌, [], ◌∷◌, ◌+◌, ◌%◌, ◌<◌};
+ghost use Rattle.std.specs.Prelude.{◌≡◌, [], ◌∷◌, ◌+◌, ◌*◌, ◌%◌, ◌<◌, ◌≤◌, SomeIff};
 ghost use Rattle.text_buffers.specs.Buffers.{Wrote, Added};
-ghost use Rattle.text_numbers.specs.Numbers.{number_in, last_three, dec};
+ghost use Rattle.text_numbers.specs.Numbers.{largest, digit_of, digits_from, number_in, last_three, dec};
 
-// What a field holds: a number; or none, and then the place in the field of the first byte with which it stops being
-// the start of one (the field's length, if only its end came too early).
-#[derive(Clone, Copy)]
-pub enum Num {
-    Is(u16),
-    Bad(usize),
+use text_fields::BadByte;
+
+// The number with one more digit behind it, if the byte is a digit and that number is not too large.
+#[tactic(auto, unfolding(crate::specs::Numbers::digit_of))]
+fn with_digit(number: u16, byte: u8) -> Option<u16>
+    ensures { SomeIff result ((digit_of byte < 10) × (number * 10 + digit_of byte ≤ largest))
+        (number * 10 + digit_of byte) }
+{
+    match byte {
+        b'0'..=b'9' => u16::try_from(u32::from(number) * 10 + u32::from(byte - b'0')).ok(),
+        _ => None,
+    }
 }
 
-// The number that a field holds.
-pub fn number(field: &[u8]) -> Num
+// The number that the digits make.
+fn digits(field: &[u8]) -> Result<u16, BadByte>
+    ensures { result ≡ digits_from 0 0 field.now }
+{
+    let mut number = 0;
+    for (place, byte) in field.iter().enumerate() {
+        number = with_digit(number, *byte).ok_or(BadByte { place })?;
+    }
+    Ok(number)
+}
+
+// The number that a field holds; or the first byte with which it stops being the start of one.
+pub fn number(field: &[u8]) -> Result<u16, BadByte>
     ensures { result ≡ number_in field.now }
 {
-    if field.len() == 0 {
-        return Num::Bad(0);
+    match field {
+        [] => Err(BadByte { place: 0 }),
+        b"0" => Ok(0),
+        [b'0', ..] => Err(BadByte { place: 1 }),
+        _ => digits(field),
     }
-    if field[0] == 48 {
-        if field.len() == 1 {
-            return Num::Is(0);
-        }
-        return Num::Bad(1);
-    }
-    let mut v: u32 = 0;
-    let mut i = 0;
-    while i < field.len() {
-        let b = field[i];
-        if (b < 48) | (57 < b) {
-            return Num::Bad(i);
-        }
-        let w = v * 10 + (b as u32 - 48);
-        if 65535 < w {
-            return Num::Bad(i);
-        }
-        v = w;
-        i += 1;
-    }
-    Num::Is(v as u16)
 }
 
 // Writes the last digit of n at the place `at`, and answers where the next byte goes.
 fn add_digit(out: &mut [u8], at: usize, n: u32) -> usize
     ensures { Added ((48 + n % 10) ∷ []) out.old at out.new result }
 {
-    text_buffers::add_byte(out, at, (48 + n % 10) as u8)
+    text_buffers::add_byte(out, at, b'0' + (n % 10) as u8)
 }
 
 // The same for its last three digits.

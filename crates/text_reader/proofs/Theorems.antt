@@ -22,6 +22,7 @@ pub after_unique : (r : Reader) {p q : Reader} → (p.line ≡ r.line) × (p.at 
     → (q.line ≡ r.line) × (q.at ≡ next_start r.line.now r.at) → (p.line ≡ q.line) × (p.at ≡ q.at)
 after_unique r e f = (e.0 ∙ sym f.0, e.1 ∙ sym f.1)
 
+-- the same of a reader that starts at a place of a line: its field, and where the next one starts
 pub field_from_unique : {l : Bor (List ℕ)} {at : ℕ} {f g : Bor (List ℕ)} → FieldOf l at f → FieldOf l at g
     → (f.now ≡ g.now) × (f.ref_ptr.0 ≡ g.ref_ptr.0) × (f.ref_ptr.1 ≡ g.ref_ptr.1)
 field_from_unique p q = field_of_unique p q

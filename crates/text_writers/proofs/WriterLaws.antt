@@ -3,50 +3,19 @@
 -- Assumes nothing.
 use Prim.Native.Nat.{ℕ, zero, suc, ◌+◌, ◌-◌, ◌*◌, ◌≤◌, ◌<◌, min}
 use mathlib.Core.List.{List, [], ◌∷◌, ◌++◌, append_assoc, append-nil}
-use mathlib.Core.Path.{◌≡◌, ap, sym, ◌∙◌}
-use mathlib.Core.Bool.{true, false, ◌&&◌}
+use mathlib.Core.Path.{◌≡◌, ap, sym}
 use native.Mathlib.Omega.{arith}
-use native.Mathlib.Decide.{dec_lt}
 use native.Mathlib.Numerals.{add-one}
 use native.Mathlib.Nat.{mul-suc, zero-min, min-zero, suc-min-suc}
-use lib.ListN.{length, take, drop, get_or, length-append, length-drop, length-take, take-append-drop}
+use lib.ListN.{length, take, drop, get_or, length-append, length-drop}
 use lib.ListN.{drop_of_length-le}
-use lib.Seq.{take-suc, take-nil, take_all}
-use lib.Dec.{ltb}
-use borrow.Author.Tests.{ltb-true, ltb-false, lt-ltb}
-use Rattle.words.specs.Lists.{over}
-use Rattle.words.proofs.BoolLaws.{and_split}
-use Rattle.text_buffers.specs.Buffers.{fitting, Wrote, Added}
-use Rattle.text_buffers.proofs.BufferLaws.{fitting_past, wrote_none, wrote_length, wrote_added}
+use lib.Seq.{take-suc, take-nil}
+use Rattle.text_buffers.specs.Buffers.{Wrote, Added}
+use Rattle.text_buffers.proofs.BufferLaws.{wrote_none, wrote_added}
 use Rattle.text_numbers.proofs.PrintLaws.{dec_three, dec_five}
 use Rattle.text_writers.specs.Texts.{field_text, fields_text, stretch_of, Every, no_more, one_more}
 
 -- ---- one more
-
--- of a byte string
-pub bytes_more : (t : List ℕ) (i : ℕ) {o x y : List ℕ} {at r : ℕ} → i < length t → Wrote (take i t) o x at
-    → Added (get_or t i 0 ∷ []) x at y r
-    → Wrote (take (i + 1) t) o y r
-bytes_more t i h w a = rw (add-one, take-suc t i 0 h) (wrote_added w a)
-
--- a place that two lists have
-pub within_both : (i n m : ℕ) → (ltb i n && ltb i m) ≡ true → (i < n) × (i < m)
-within_both i n m e = let (a, b) = and_split (ltb i n) (ltb i m) e in (ltb-true i n a, ltb-true i m b)
-
--- there are no more bytes, or the buffer is full, and what follows would be cut
-pub bytes_end : (t : List ℕ) (i : ℕ) {o x : List ℕ} → i ≤ length t → (ltb i (length t) && ltb i (length x)) ≡ false
-    → Wrote (take i t) o x i → Wrote t o x i
-bytes_end t i {o} {x} h e w = go (dec_lt i (length t))
-  where
-    go : Dec (i < length t) → Wrote t o x i
-    go (yes b) =
-        let full : length x ≤ i = ltb-false i (length x) (rw (lt-ltb i (length t) b) at e) in
-        let n : length (take i t) ≡ min i (length t) = length-take i t in
-        let l : length o ≤ length (take i t) = omega (arith, wrote_length w) in
-        let whole = ap (λ (s : List ℕ). fitting s o) (take-append-drop i t) in
-        let f = sym (fitting_past (take i t) (drop i t) o l) ∙ whole in
-        record { count = w.count ∙ ap length f; text = w.text ∙ ap (λ (s : List ℕ). over s o) f }
-    go (no b) = rw (take_all i t (omega arith)) at w
 
 fields_text_snoc : (ns : List ℕ) (n : ℕ) → fields_text (ns ++ (n ∷ [])) ≡ fields_text ns ++ field_text n
 unfolding fields_text

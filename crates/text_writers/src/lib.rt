@@ -13,12 +13,9 @@ ghost use Rattle.text_writers.specs.Texts.{field_text, fields_text, stretch_of};
 pub fn put_bytes(out: &mut [u8], text: &[u8]) -> usize
     ensures { Wrote text.now out.old out.new result }
 {
-    let mut i = 0;
-    while (i < text.len()) & (i < out.len()) {
-        out[i] = text[i];
-        i += 1;
-    }
-    i
+    let count = text.len().min(out.len());
+    out[..count].copy_from_slice(&text[..count]);
+    count
 }
 
 // Writes a byte string from `at` on.
@@ -45,7 +42,7 @@ pub fn add_digits(out: &mut [u8], at: usize, n: u32) -> usize
 pub fn put_number(out: &mut [u8], n: u32) -> usize
     ensures { Wrote (field_text n) out.old out.new result }
 {
-    let at = text_buffers::add_byte(out, 0, 9);
+    let at = text_buffers::add_byte(out, 0, b'\t');
     add_digits(out, at, n)
 }
 
@@ -59,22 +56,13 @@ pub fn add_number(out: &mut [u8], at: usize, n: u32) -> usize
     at + put_number(&mut out[at..], n)
 }
 
-// A word as a number of 32 bits.
-pub fn wide(word: u16) -> u32
-    ensures { result ≡ word }
-{
-    word as u32
-}
-
 // Writes each of the words as a number, each after a tab.
 pub fn put_numbers(out: &mut [u8], words: &[u16]) -> usize
     ensures { Wrote (fields_text words.now) out.old out.new result }
 {
     let mut at = 0;
-    let mut i = 0;
-    while i < words.len() {
-        at = add_number(out, at, wide(words[i]));
-        i += 1;
+    for word in words {
+        at = add_number(out, at, u32::from(*word));
     }
     at
 }
@@ -83,13 +71,7 @@ pub fn put_numbers(out: &mut [u8], words: &[u16]) -> usize
 fn part_end(length: usize, from: usize, count: usize) -> usize
     ensures { result ≡ from + min count (length - from) }
 {
-    if length <= from {
-        return from;
-    }
-    if length - from <= count {
-        return length;
-    }
-    from + count
+    from + count.min(length.saturating_sub(from))
 }
 
 // Writes `count` of the words from `from` on, or as many as there are, as numbers, each after a tab.
@@ -100,8 +82,8 @@ pub fn put_part(out: &mut [u8], words: &[u16], from: usize, count: usize) -> usi
     if words.len() < from {
         return 0;
     }
-    let e = part_end(words.len(), from, count);
-    put_numbers(out, &words[from..e])
+    let end = part_end(words.len(), from, count);
+    put_numbers(out, &words[from..end])
 }
 
 // The same from `at` on.

@@ -4,4 +4,4 @@ use Rattle.answer_text.proofs.AnswerLaws.{fields_text_one}
 use Rattle.answer_text.proofs.add_field.Goals as goal
 
 pub returns : goal.returns
-returns c = rw (fields_text_one, ← c.wide.ensures) c.add_number.ensures
+returns c = rw (fields_text_one, ← c.from.ensures) c.add_number.ensures

@@ -1,12 +1,6 @@
--- `answer_text::add_part` meets its contract: a part that is told shows its value and its words, any other nothing
--- (`added_none`).
--- Assumes nothing.
+-- `answer_text::add_part` meets its contract: where there is no value, nothing is shown (`added_none`). Assumes nothing.
 use Rattle.answer_text.proofs.AnswerLaws.{fields_text_none, added_none}
 use Rattle.answer_text.proofs.add_part.Goals as goal
 
-pub returns-then-p : goal.returns-then-p
-returns-then-p c =
-    rw c.if-p.true c.add_list.ensures
-
-pub returns : goal.returns
-returns c = rw (c.if-p.false, fields_text_none) (added_none _ _)
+pub returns-in-None : goal.returns-in-None
+returns-in-None c = rw (c.in-None.is, fields_text_none) (added_none _ _)

@@ -2,7 +2,6 @@
 -- (`added_byte`).
 -- Assumes nothing.
 use Rattle.text_buffers.proofs.BufferLaws.{added_byte, added_past}
-use borrow.Author.Rules.{rules}
 use Rattle.text_buffers.proofs.add_byte.Goals as goal
 
 pub returns-then-out-at : goal.returns-then-out-at

@@ -18,19 +18,23 @@ returns-then-line-at c =
     }
 
 pub slice_bounds-result-count-2 : goal.slice_bounds-result-count-2
-slice_bounds-result-count-2 c = let h = field_end_bounds _ _ _ c.field_end-e.ensures c.if-line-at.false in search rules
+slice_bounds-result-count-2 c =
+    let h = field_end_bounds _ _ _ c.field_end-end.ensures c.if-line-at.false in
+    search rules
 
 pub slice_bounds-result-start-2 : goal.slice_bounds-result-start-2
-slice_bounds-result-start-2 c = let h = field_end_bounds _ _ _ c.field_end-e.ensures c.if-line-at.false in search rules
+slice_bounds-result-start-2 c =
+    let h = field_end_bounds _ _ _ c.field_end-end.ensures c.if-line-at.false in
+    search rules
 
 pub slice_bounds-result-end-2 : goal.slice_bounds-result-end-2
-slice_bounds-result-end-2 c = let h = field_end_bounds _ _ _ c.field_end-e.ensures c.if-line-at.false in search rules
+slice_bounds-result-end-2 c = let h = field_end_bounds _ _ _ c.field_end-end.ensures c.if-line-at.false in search rules
 
 pub returns : goal.returns
 returns c =
     let a = c.args in
     record {
-      bytes = field_at_part _ _ _ c.field_end-e.ensures;
+      bytes = field_at_part _ _ _ c.field_end-end.ensures;
       memory = refl;
       place = omega (arith, part_start_is a.line.now a.at c.if-line-at.false);
     }

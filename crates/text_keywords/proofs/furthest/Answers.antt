@@ -1,18 +1,19 @@
--- `text_keywords::furthest` meets its contract: the table is gone through from its last word, each a step of `longest`.
--- Assumes nothing.
-use mathlib.Core.List.{[]}
-use Rattle.text_keywords.specs.declared.Keyword.TheVariants.{Open, Step}
-use Rattle.step_kinds.specs.declared.Kind.TheVariants.{New, Set, Get, Async, End}
-use Rattle.text_keywords.specs.Keywords.{keywords, text_of}
-use Rattle.text_keywords.proofs.KeywordLaws.{longest_more, longest_none}
+-- `text_keywords::furthest` meets its contract. The invariant: the words so far, and those that are left, give the
+-- answer. Assumes nothing.
+use Rattle.std.proofs.Common.{◌∙◌, sym, ap}
+use Rattle.text_keywords.specs.Keywords.{keywords, common}
+use Rattle.text_keywords.proofs.KeywordLaws.{common_zip, longest_start, longest_more, longest_end}
 use Rattle.text_keywords.proofs.furthest.Goals as goal
 
+pub loop-word-init : goal.loop-word-init
+unfolding keywords
+loop-word-init c = longest_start _
+
+pub loop-word-preserved : goal.loop-word-preserved
+loop-word-preserved c =
+    longest_more _ _ _ _ c.loop-word-test.true _ _ _
+    (c.common.ensures ∙ common_zip _ _ ∙ ap (common c.args.field.now) c.text.ensures) c.max-most.ensures
+    ∙ c.loop-word.invariant
+
 pub returns : goal.returns
-unfolding keywords text_of
-returns c =
-    longest_more _ Open _ _ _ _ c.most.ensures c.common-6.ensures
-    (longest_more _ (Step New) _ _ _ _ c.most-e.ensures c.common-5.ensures
-    (longest_more _ (Step Set) _ _ _ _ c.most-d.ensures c.common-4.ensures
-    (longest_more _ (Step Get) _ _ _ _ c.most-c.ensures c.common-3.ensures
-    (longest_more _ (Step Async) _ _ _ _ c.most-b.ensures c.common-2.ensures
-    (longest_more _ (Step End) ([]) _ _ _ c.most-a.ensures c.common.ensures (longest_none _))))))
+returns c = sym (longest_end c.args.field.now _ _ _ c.loop-word-test.false) ∙ c.loop-word.invariant

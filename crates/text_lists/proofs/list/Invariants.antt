@@ -6,8 +6,8 @@ use lib.ListN.{length}
 use Rattle.text_lists.proofs.ListLaws.{At}
 use Rattle.text_lists.proofs.list.Given as goal
 
-abbrev pub invariant-loop-a : goal.invariant-loop-a
-invariant-loop-a l = At l.rest l.initial.out l.out l.n l.a
+abbrev pub invariant-loop-at : goal.invariant-loop-at
+invariant-loop-at l = At l.rest l.initial.out l.out l.count l.at
 
-abbrev pub decreases-loop-a : goal.decreases-loop-a
-decreases-loop-a l = length l.rest + 1 - l.a
+abbrev pub decreases-loop-at : goal.decreases-loop-at
+decreases-loop-at l = length l.rest + 1 - l.at

@@ -1,15 +1,9 @@
--- `text_lists::list_after` meets its contract: the part of the line from `at` on is what `list` is handed, and past
--- the line it is empty.
--- Assumes nothing.
-use native.Mathlib.Omega.{arith}
-use Rattle.text_buffers.proofs.BufferLaws.{rest_lent}
+-- `text_lists::list_after` meets its contract: past the line the rest is empty (`listing_past`). Assumes nothing.
+use Rattle.std.proofs.Common.{rules, ◌≤◌, length}
 use Rattle.text_lists.proofs.ListLaws.{listing_past}
 use Rattle.text_lists.proofs.list_after.Goals as goal
 
-pub returns-then-line-at : goal.returns-then-line-at
-returns-then-line-at c = let a = c.args in listing_past a.line.now _ a.at (omega arith)
-
-pub returns : goal.returns
-returns c =
-    let a = c.args in
-    rw (rest_lent a.line.now a.at) at c.list.ensures
+pub returns-in-None : goal.returns-in-None
+returns-in-None c =
+    let h : length c.args.line.now ≤ c.args.at = search rules in
+    listing_past c.args.line.now _ c.args.at h

@@ -1,17 +1,17 @@
 -- `text_records::pair_at` meets its contract: the two numbers are read in the order of `with_first` and `with_second`.
 -- Assumes nothing.
-use mathlib.Core.Path.{sym}
-use Rattle.text_records.specs.Records.{pair_at, with_first, with_second}
+use Rattle.std.proofs.Common.{rules}
+use Rattle.text_records.specs.Records.{with_second, with_first, pair_at}
 use Rattle.text_records.proofs.pair_at.Goals as goal
 
-pub returns-in-Is-number_at : goal.returns-in-Is-number_at
+pub returns-in_err-first : goal.returns-in_err-first
 unfolding pair_at with_first with_second
-returns-in-Is-number_at c = rw (sym c.in-Is.ensures, sym c.in-Is-number_at.ensures)
+returns-in_err-first c = search rules
 
-pub returns-in-Bad-number_at : goal.returns-in-Bad-number_at
+pub returns-in_err-second : goal.returns-in_err-second
 unfolding pair_at with_first with_second
-returns-in-Bad-number_at c = rw (sym c.in-Is.ensures, sym c.in-Bad-number_at.ensures)
+returns-in_err-second c = search rules
 
-pub returns-in-Bad : goal.returns-in-Bad
+pub returns : goal.returns
 unfolding pair_at with_first with_second
-returns-in-Bad c = rw (sym c.in-Bad.ensures)
+returns c = search rules

@@ -1,51 +1,50 @@
--- `text_records::record_of` meets its contract: the line goes by its word (`by`), and each arm is the clause of
--- `after_word` for that word.
--- Assumes nothing.
-use mathlib.Core.List.{List}
-use Prim.Native.Nat.{ℕ, ◌+◌}
-use mathlib.Core.Path.{◌≡◌, refl, sym, ap, ◌∙◌}
-use native.Mathlib.Omega.{arith}
-use lib.ListN.{length}
+-- `text_records::record_of` meets its contract: the line goes by its word (`record_of_by`), and each way out is the
+-- clause of `after_word` for that word. Assumes nothing.
+use Rattle.std.proofs.Common.{rules, ◌≡◌, ◌∙◌, sym, ap, length, Ok, Err}
 use Rattle.text_fields.specs.Fields.{field_at, next_start}
 use Rattle.text_keywords.specs.Keywords.{keyword_of}
-use Rattle.text_fields.proofs.FieldLaws.{next_start_end}
-use Rattle.text_keywords.specs.declared.Keyword.{Keyword}
-use Rattle.text_records.specs.Records.{of_pair, after_word, record_of}
+use Rattle.text_keywords.specs.declared.Keyword.TheVariants.{Open, Step}
+use Rattle.text_records.specs.declared.LineRecord.TheVariants as R
+use Rattle.text_records.specs.Records.{of_pair, last_pair, pair_at, after_word}
 use Rattle.text_records.proofs.RecordLaws.{record_of_by}
 use Rattle.text_records.proofs.record_of.Goals as goal
 
--- a place counted from the line's start
-zero-on : (s f : List ℕ) {n : ℕ} → n ≡ next_start s (length f) → n ≡ next_start s (0 + length f)
-zero-on s f e = e ∙ ap (next_start s) (omega arith)
+pub returns-in_err-keyword_of : goal.returns-in_err-keyword_of
+unfolding after_word
+returns-in_err-keyword_of c =
+    let bytes : c.field-word.result.now ≡ field_at c.args.line.now 0 = search rules in
+    let next : c.after-next.result.at ≡ next_start c.args.line.now (length c.field-word.result.now) = search rules in
+    let word = c.in_err-keyword_of.field-0.0 in
+    let w : Err word ≡ keyword_of c.field-word.result.now = search rules in
+    let r : c.from_residual.result ≡ Err word = search rules in
+    r ∙ sym (record_of_by _ _ _ _ bytes next w)
 
--- after the word, whichever it is
-by : (s f : List ℕ) (n : ℕ) (v : Keyword) → f ≡ field_at s 0 → n ≡ next_start s (length f) → v ≡ keyword_of f
-    → record_of s ≡ after_word s n v
-by s f n v bytes next word =
-    record_of_by s f n v v bytes (next_start_end s 0 (omega arith) bytes (zero-on s f next)) word refl
-
-pub returns-in-Is : goal.returns-in-Is
+pub returns-in_err-tasks-in-Open : goal.returns-in_err-tasks-in-Open
 unfolding after_word of_pair
-returns-in-Is c =
-    rw (
-      by _ _ _ _ c.field_from-word.ensures.bytes c.next_from-next.ensures c.in-Open.ensures,
-      sym c.in-Is.ensures,
-    )
+returns-in_err-tasks-in-Open c =
+    let bytes : c.field-word.result.now ≡ field_at c.args.line.now 0 = search rules in
+    let next : c.after-next.result.at ≡ next_start c.args.line.now (length c.field-word.result.now) = search rules in
+    let bad = c.in_err-tasks-in-Open.field-0.0 in
+    let w : Ok Open ≡ keyword_of c.field-word.result.now = search rules in
+    let l : last_pair c.args.line.now (pair_at c.args.line.now c.after-next.result.at) ≡ Err bad = search rules in
+    let r : c.from_residual-in_err-tasks-in-Open.result ≡ Err bad = search rules in
+    r ∙ sym (record_of_by _ _ _ _ bytes next w ∙ ap (of_pair R.Open) l)
 
-pub returns-in-Bad : goal.returns-in-Bad
+pub returns-in_ok-tasks-in-Open : goal.returns-in_ok-tasks-in-Open
 unfolding after_word of_pair
-returns-in-Bad c =
-    rw (
-      by _ _ _ _ c.field_from-word.ensures.bytes c.next_from-next.ensures c.in-Open.ensures,
-      sym c.in-Bad.ensures,
-    )
+returns-in_ok-tasks-in-Open c =
+    let bytes : c.field-word.result.now ≡ field_at c.args.line.now 0 = search rules in
+    let next : c.after-next.result.at ≡ next_start c.args.line.now (length c.field-word.result.now) = search rules in
+    let t = c.in_ok-tasks-in-Open in
+    let w : Ok Open ≡ keyword_of c.field-word.result.now = search rules in
+    let l : last_pair c.args.line.now (pair_at c.args.line.now c.after-next.result.at) ≡ Ok (t.tasks, t.promises) =
+    search rules in
+    sym (record_of_by _ _ _ _ bytes next w ∙ ap (of_pair R.Open) l)
 
 pub returns-in-Step : goal.returns-in-Step
-unfolding after_word of_pair
+unfolding after_word
 returns-in-Step c =
-    c.step_after.ensures
-    ∙ sym (by _ _ _ _ c.field_from-word.ensures.bytes c.next_from-next.ensures c.in-Step.ensures)
-
-pub returns-in-Other : goal.returns-in-Other
-unfolding after_word of_pair
-returns-in-Other c = sym (by _ _ _ _ c.field_from-word.ensures.bytes c.next_from-next.ensures c.in-Other.ensures)
+    let bytes : c.field-word.result.now ≡ field_at c.args.line.now 0 = search rules in
+    let next : c.after-next.result.at ≡ next_start c.args.line.now (length c.field-word.result.now) = search rules in
+    let w : Ok (Step c.in-Step.kind) ≡ keyword_of c.field-word.result.now = search rules in
+    c.step_after.ensures ∙ sym (record_of_by _ _ _ _ bytes next w)

@@ -1,32 +1,48 @@
--- `text_records::step_after` meets its contract: each arm is the clause of `after_kind` for what the kind takes.
--- Assumes nothing.
-use mathlib.Core.Path.{sym}
-use Rattle.text_records.specs.Records.{of_pair, of_list, after_kind}
-use Rattle.text_records.proofs.RecordLaws.{pair_at_next}
-use borrow.Author.Rules.{rules}
+-- `text_records::step_after` meets its contract: each way out is the clause of `after_kind` for what the kind
+-- takes, and a field starts past the numbers before it (`number_at_next`, `pair_at_next`). Assumes nothing.
+use Rattle.std.proofs.Common.{rules, ◌≡◌, Ok}
+use Rattle.text_records.specs.Records.{number_at, pair_at, ended, of_pair, of_list, of_one, after_kind}
+use Rattle.text_records.proofs.RecordLaws.{number_at_next, pair_at_next}
 use Rattle.text_records.proofs.step_after.Goals as goal
+
+pub ended-requires : goal.ended-requires
+ended-requires c =
+    let w = c.in_ok-number-in-One in
+    let e : number_at c.args.line.now c.args.at ≡ Ok (w.number, w.next) = search rules in
+    let h = (number_at_next _ _ _ _ e).past in
+    search rules
 
 pub overflow_sub-result : goal.overflow_sub-result
 overflow_sub-result c =
-    let h = (pair_at_next _ _ _ _ _ (sym c.in-Is-pair_at.ensures)).past in
+    let w = c.in_ok-first-in-List in
+    let e : pair_at c.args.line.now c.args.at ≡ Ok (w.first, w.second, w.next) = search rules in
+    let h = (pair_at_next _ _ _ _ _ e).past in
     search rules
 
-pub returns-in-One : goal.returns-in-One
-unfolding after_kind
-returns-in-One c = rw (sym c.in-One.ensures) c.with_one.ensures
+pub returns-in_err-number-in-One : goal.returns-in_err-number-in-One
+unfolding after_kind of_one
+returns-in_err-number-in-One c = search rules
 
-pub returns-in-Is : goal.returns-in-Is
-unfolding after_kind of_pair of_list
-returns-in-Is c = rw (sym c.in-Two.ensures, sym c.in-Is.ensures)
+pub returns-in_err-ended-in-One : goal.returns-in_err-ended-in-One
+unfolding after_kind of_one ended
+returns-in_err-ended-in-One c = search rules
 
-pub returns-in-Bad : goal.returns-in-Bad
-unfolding after_kind of_pair of_list
-returns-in-Bad c = rw (sym c.in-Two.ensures, sym c.in-Bad.ensures)
+pub returns-in_ok-ended-in-One : goal.returns-in_ok-ended-in-One
+unfolding after_kind of_one ended
+returns-in_ok-ended-in-One c = search rules
 
-pub returns-in-Is-pair_at : goal.returns-in-Is-pair_at
-unfolding after_kind of_pair of_list
-returns-in-Is-pair_at c = rw (sym c.in-List.ensures, sym c.in-Is-pair_at.ensures)
+pub returns-in_err-first-in-Two : goal.returns-in_err-first-in-Two
+unfolding after_kind of_pair
+returns-in_err-first-in-Two c = search rules
 
-pub returns-in-Bad-pair_at : goal.returns-in-Bad-pair_at
-unfolding after_kind of_pair of_list
-returns-in-Bad-pair_at c = rw (sym c.in-List.ensures, sym c.in-Bad-pair_at.ensures)
+pub returns-in_ok-first-in-Two : goal.returns-in_ok-first-in-Two
+unfolding after_kind of_pair
+returns-in_ok-first-in-Two c = search rules
+
+pub returns-in_err-first-in-List : goal.returns-in_err-first-in-List
+unfolding after_kind of_list
+returns-in_err-first-in-List c = search rules
+
+pub returns-in_ok-first-in-List : goal.returns-in_ok-first-in-List
+unfolding after_kind of_list
+returns-in_ok-first-in-List c = search rules

@@ -4,19 +4,17 @@
 use lib.Seq.{take_all}
 use Rattle.text_buffers.proofs.BufferLaws.{wrote_length}
 use Rattle.text_writers.proofs.WriterLaws.{fields_more, fields_none}
-use borrow.Author.Rules.{rules}
 use Rattle.text_writers.proofs.put_numbers.Goals as goal
 
-pub loop-i-init : goal.loop-i-init
-loop-i-init c = (search rules, fields_none _)
+pub loop-word-init : goal.loop-word-init
+loop-word-init c = fields_none _
 
-pub loop-i-preserved : goal.loop-i-preserved
-loop-i-preserved c =
-    let a = rw c.wide.ensures at c.add_number-at.ensures in
-    (search rules, fields_more _ _ c.loop-i-test.true c.loop-i.invariant.1 a)
+pub loop-word-preserved : goal.loop-word-preserved
+loop-word-preserved c =
+    fields_more _ _ c.loop-word-test.true c.loop-word.invariant (rw c.from.ensures at c.add_number-at.ensures)
 
 pub shape_of-out : goal.shape_of-out
-shape_of-out c = wrote_length c.loop-i.invariant.1
+shape_of-out c = wrote_length c.loop-word.invariant
 
 pub returns : goal.returns
-returns c = rw (take_all _ _ c.loop-i-test.false) at c.loop-i.invariant.1
+returns c = rw (take_all _ _ c.loop-word-test.false) at c.loop-word.invariant

@@ -13,5 +13,5 @@ returns-then-words-from c =
 pub returns : goal.returns
 returns c =
     let a = c.args in
-    rw (stretch_of_slice a.words.now a.from a.count _ c.part_end-e.ensures) at
+    rw (stretch_of_slice a.words.now a.from a.count _ c.part_end-end.ensures) at
     c.put_numbers.ensures
