@@ -20,14 +20,14 @@ use Rattle.words.proofs.WordLaws.{Sizes, sizes_in_bounds_true}
 use Rattle.rules.specs.Tables.{Tables, in_bounds, room_of}
 use Rattle.rules.specs.Sound.{sound_test}
 use Rattle.rules.specs.Answers.{by_number}
-use Rattle.rules.specs.Refusals.{first, table_rows}
+use Rattle.rules.specs.Refusals.{first, refusal_number, table_rows}
 use Rattle.rules.specs.Steps.{Outcome, raw, step}
 use Rattle.rules.specs.Demands.{Apart, Good}
 use Rattle.rules.proofs.BoundsLaws.{AsLong, as_long, as_long_too, sizes_fit_of, in_bounds_both}
 use Rattle.rules.proofs.GuardLaws.{guarded_is, guarded_none}
 use Rattle.rules.proofs.Kept.{good_passes, good_step, step_lengths}
 use Rattle.rules.proofs.Promises.{test_means_sound}
-use Rattle.rules.proofs.RefusalLaws.{tests_past}
+use Rattle.rules.proofs.RefusalLaws.{tests_past, number_not_0}
 use Rattle.answer_words.specs.AnswerWords.{answer_words}
 use Rattle.answer_words.proofs.AnswerWordLaws.{answer_words_length}
 use Rattle.batch_record.specs.declared.Record.{Record}
@@ -35,7 +35,8 @@ use Rattle.batch_record.specs.Records.{step_of, part_rows, raw_record, step_reco
 use Rattle.batch_record.proofs.RecordLaws.{record_room}
 use Rattle.batch.specs.Batches.{no_record, record_at, one_by_one, last_tables, all_answers, all_words, has_room}
 use Rattle.batch.specs.Batches.{call_rows, done, refused, called, batched, Batches}
-use Rattle.batch.specs.declared.Called.TheVariants.{Refused, Done}
+use Rattle.std.specs.Prelude.{Ok, Err}
+use Rattle.rules.specs.declared.Refusal.{Refusal}
 
 -- ---- a call that is not refused
 
@@ -310,15 +311,15 @@ module _ (F : Form) (apart : Apart F) (list : List ℕ) (rs : List Record) (s₀
 
   -- ---- the two ways out
 
-  pub call_refused : {n : ℕ} → n ≡ first (call_rows F s₀ (length rs) (length rep₀) (length ans₀)) → n ≢ 0
-      → Batches (batched F list s₀ rs (length rep₀) (length ans₀)) rep₀ ans₀ (Refused n) s₀ rep₀ ans₀
-  call_refused {n} e h =
-      rw (refused_all F list s₀ rs (length rep₀) (length ans₀) (λ z. h (e ∙ z)), ← e)
+  pub call_refused : {r : Refusal} → refusal_number r ≡ first (call_rows F s₀ (length rs) (length rep₀) (length ans₀))
+      → Batches (batched F list s₀ rs (length rep₀) (length ans₀)) rep₀ ans₀ (Err r) s₀ rep₀ ans₀
+  call_refused {r} e =
+      rw (refused_all F list s₀ rs (length rep₀) (length ans₀) (λ z. number_not_0 r (e ∙ z)), ← e)
       (record { answer = refl; after = refl; report = sym (over_none rep₀); answers = sym (over_none ans₀) })
 
   pub going_end : {i at : ℕ} {s : Tables} {rep ans : List ℕ}
       → first (call_rows F s₀ (length rs) (length rep₀) (length ans₀)) ≡ 0 → Going i at s rep ans → length rs ≤ i
-      → Batches (batched F list s₀ rs (length rep₀) (length ans₀)) rep₀ ans₀ (Done at) s rep ans
+      → Batches (batched F list s₀ rs (length rep₀) (length ans₀)) rep₀ ans₀ (Ok at) s rep ans
   unfolding last_tables all_words all_answers
   going_end {i} {at} {s} {rep} {ans} e g h =
       let z : rest i s ≡ [] = no_more F own list s rs i h in
@@ -328,7 +329,7 @@ module _ (F : Form) (apart : Apart F) (list : List ℕ) (rs : List Record) (s₀
       let answers_fit : length (all_answers all) ≤ length ans₀ = omega
       (arith, all_answers_length all, one_by_one_length F own list s₀ rs, g.answered) in
       rw (taken_all F list s₀ rs (length rep₀) (length ans₀) e) (record {
-        answer = ap Done count;
+        answer = ap Ok count;
         after = last;
         report = sym (ap (λ (os : List Outcome). sets rep at (all_words os)) z) ∙ g.words
             ∙ sym (over_sets (all_words all) rep₀ (omega (arith, g.room, count)));

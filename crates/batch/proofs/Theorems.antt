@@ -20,10 +20,12 @@ use Rattle.rules.proofs.Promises.{demand_3_of}
 use Rattle.batch_record.specs.declared.Record.{Record}
 use Rattle.batch_record.specs.Records.{raw_record, step_record}
 use Rattle.batch.specs.Batches.{one_by_one, last_tables, Taken, none_left, next, call_rows, CallOutcome, done}
-use Rattle.batch.specs.Batches.{refused, batched, Batches}
+use Rattle.batch.specs.Batches.{refused, batched, numbered, Batches}
 use Rattle.batch.specs.Reached.{Reached, from_fresh, by_step, by_call}
-use Rattle.batch.specs.declared.Called.{Called}
-use Rattle.batch.specs.declared.Called.TheVariants.{Refused, Done}
+use Rattle.std.specs.Prelude.{Result, Ok, Err}
+use Rattle.rules.specs.declared.Refusal.{Refusal}
+use Rattle.rules.specs.Refusals.{refusal_number}
+use Rattle.rules.proofs.RefusalLaws.{one_refusal}
 use Rattle.batch.proofs.BatchLaws.{why, taken_all, refused_all, call_good}
 use Rattle.batch.proofs.BatchLaws.{record_raw, record_good, record_lengths, record_step_good}
 
@@ -35,15 +37,15 @@ call_numbered F s n m k = row (eqb-false 1 0 refl) (row (eqb-false 2 0 refl) no_
 module _ (F : Form) (list : List ℕ) (s : Tables) (rs : List Record) (m k : ℕ) where
   -- refused by q exactly when it is the number of the first row that applies: "T or P out of bounds, more than 256
   -- records or too little room is 1 for the call, with nothing written; damaged tables are 2 for the call"
-  pub call_refused_by_the_first : (q : ℕ) → (batched F list s rs m k).answer ≡ Refused q
+  pub call_refused_by_the_first : (q : ℕ) → (batched F list s rs m k).answer ≡ Err q
       → FirstGiven q (call_rows F s (length rs) m k)
   call_refused_by_the_first q e = go (ℕ_discrete (why F list s rs m k) 0)
     where
       go : Dec (why F list s rs m k ≡ 0) → FirstGiven q (call_rows F s (length rs) m k)
-      go (yes z) = let h : Done _ ≡ Refused q = sym
+      go (yes z) = let h : Ok _ ≡ Err q = sym
           (ap (λ (o : CallOutcome). o.answer) (taken_all F list s rs m k z)) ∙ e in clash cc
       go (no h) =
-          let a : Refused (why F list s rs m k) ≡ Refused q = sym
+          let a : Err (why F list s rs m k) ≡ Err q = sym
           (ap (λ (o : CallOutcome). o.answer) (refused_all F list s rs m k h)) ∙ e in
           let b : why F list s rs m k ≡ q = cc in
           first_given (call_rows F s (length rs) m k) q (λ (z : q ≡ 0). h (b ∙ z)) b
@@ -122,11 +124,17 @@ module _ (F : Form) (apart : Apart F) where
 
 -- ---- any two outcomes that the contract of a call allows coincide
 
-pub one_call : {o : CallOutcome} {rs ws : List ℕ} {c c' : Called} {s s' : Tables} {rep rep' ans ans' : List ℕ}
+one_answer : (c d : Result ℕ Refusal) → numbered c ≡ numbered d → c ≡ d
+one_answer (Ok n) (Ok m) e = ap Ok cc
+one_answer (Ok n) (Err r) e = cc
+one_answer (Err r) (Ok m) e = cc
+one_answer (Err r) (Err q) e = let k : refusal_number r ≡ refusal_number q = cc in ap Err (one_refusal r q k)
+
+pub one_call : {o : CallOutcome} {rs ws : List ℕ} {c c' : Result ℕ Refusal} {s s' : Tables} {rep rep' ans ans' : List ℕ}
     → Batches o rs ws c s rep ans → Batches o rs ws c' s' rep' ans'
     → (c ≡ c') × (s ≡ s') × (rep ≡ rep') × (ans ≡ ans')
 one_call g h = (
-  g.answer ∙ sym h.answer,
+  one_answer _ _ (g.answer ∙ sym h.answer),
   g.after ∙ sym h.after,
   g.report ∙ sym h.report,
   g.answers

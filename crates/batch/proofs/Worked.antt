@@ -13,7 +13,7 @@ use Rattle.answer_words.specs.AnswerWords.{answer_words}
 use Rattle.step_kinds.specs.Kinds.{shape_of, takes_list}
 use Rattle.batch.specs.Batches.{one_by_one, last_tables, all_answers, all_words, has_room, called, batched}
 use Rattle.batch.specs.WorkedBatch.{worked_list, worked_records, worked_outcome}
-use Rattle.batch.specs.declared.Called.TheVariants.{Refused}
+use Rattle.std.specs.Prelude.{Err}
 
 pub worked_batch : batched small worked_list (fresh 3 4) worked_records 150 60 ≡ worked_outcome
 unfolding sizes_in_bounds sizes_fit in_bounds all_below is places changed hop comes task_passes promise_passes
@@ -24,11 +24,11 @@ unfolding sizes_in_bounds sizes_fit in_bounds all_below is places changed hop co
 worked_batch = refl
 
 pub one_word_less : batched small worked_list (fresh 3 4) worked_records 149 60 ≡
-    record { answer = Refused 1; after = fresh 3 4; words = []; answers = [] }
+    record { answer = Err 1; after = fresh 3 4; words = []; answers = [] }
 unfolding sizes_in_bounds first has_room called
 one_word_less = refl
 
 pub one_answer_less : batched small worked_list (fresh 3 4) worked_records 150 59 ≡
-    record { answer = Refused 1; after = fresh 3 4; words = []; answers = [] }
+    record { answer = Err 1; after = fresh 3 4; words = []; answers = [] }
 unfolding sizes_in_bounds first has_room called
 one_answer_less = refl

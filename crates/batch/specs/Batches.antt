@@ -11,25 +11,27 @@
 --   has_room F T P n m k      n records are not too many, and have room in a report of m words and in k words for
 --                             their answers
 --   call_rows F s n m k       refusals 1 and 2 of the call
---   CallOutcome               the answer to the call, the tables after it, and what is written over the front of the
---                             report and of the answers
+--   CallOutcome               the answer to the call, that is how many report words its steps gave or the number of its
+--                             refusal, the tables after it, and what is written over the front of the report and of
+--                             the answers
 --   done s os, refused r s    all steps taken; refused by r
 --   batched F list s rs m k   what a call with a report of m words and k words for the answers makes
+--   numbered c                the answer c of the code, its refusal as a number
 --   Batches ..                what a call leaves of the tables, the report and the answers
 -- Assumes nothing.
 use Rattle.std.specs.Prelude.{ℕ, ◌*◌, ◌≤◌, ◌≡◌, List, [], ◌∷◌, ◌++◌, Bool, cond, not, ◌&&◌, eqb, leb, length, get_or}
+use Rattle.std.specs.Prelude.{Result, Ok, Err}
 use Rattle.words.specs.Words.{Form, sizes_in_bounds, room_for, most_records}
 use Rattle.words.specs.Lists.{over}
 use Rattle.rules.specs.Tables.{Tables}
 use Rattle.rules.specs.Sound.{sound_test}
-use Rattle.rules.specs.Refusals.{Row, first}
+use Rattle.rules.specs.Refusals.{Row, first, refusal_number}
 use Rattle.rules.specs.Steps.{Outcome}
 use Rattle.answer_words.specs.AnswerWords.{answer_words}
 use Rattle.step_kinds.specs.declared.Kind.TheVariants.{End}
 use Rattle.batch_record.specs.declared.Record.{Record}
 use Rattle.batch_record.specs.Records.{step_record}
-use Rattle.batch.specs.declared.Called.{Called}
-use Rattle.batch.specs.declared.Called.TheVariants.{Refused, Done}
+use Rattle.rules.specs.declared.Refusal.{Refusal}
 
 -- past the last one there is none; something must stand there
 abbrev pub no_record : Record
@@ -78,7 +80,7 @@ call_rows F s n m k =
     ∷ []
 
 pub record CallOutcome : Type 0 where
-  pub answer : Called
+  pub answer : Result ℕ ℕ
   pub after : Tables
   pub words : List ℕ
   pub answers : List ℕ
@@ -86,7 +88,7 @@ pub record CallOutcome : Type 0 where
 -- all steps taken
 abbrev pub done : Tables → List Outcome → CallOutcome
 done s os = record {
-  answer = Done (length (all_words os));
+  answer = Ok (length (all_words os));
   after = last_tables s os;
   words = all_words os;
   answers =
@@ -95,7 +97,7 @@ done s os = record {
 
 -- refused, "with nothing written"
 abbrev pub refused : ℕ → Tables → CallOutcome
-refused r s = record { answer = Refused r; after = s; words = []; answers = [] }
+refused r s = record { answer = Err r; after = s; words = []; answers = [] }
 
 unfoldable pub called : ℕ → Tables → List Outcome → CallOutcome
 called r s os = cond (eqb r 0) (done s os) (refused r s)
@@ -105,9 +107,15 @@ abbrev pub batched : Form → List ℕ → Tables → List Record → ℕ → �
 batched F list s rs m k = called (first (call_rows F s (length rs) m k)) s
     (one_by_one F (room_for (length s.tasks) (length s.promises)) list s rs)
 
+-- the answer of the code, its refusal as a number
+abbrev pub numbered : Result ℕ Refusal → Result ℕ ℕ
+numbered (Ok n) = Ok n
+numbered (Err r) = Err (refusal_number r)
+
 -- "words or answers past the last one given stay as they were"
-pub record Batches (o : CallOutcome) (rs ws : List ℕ) (c : Called) (s' : Tables) (rs' ws' : List ℕ) : Type 0 where
-  pub answer : c ≡ o.answer
-  pub after : s' ≡ o.after
-  pub report : rs' ≡ over o.words rs
-  pub answers : ws' ≡ over o.answers ws
+pub record Batches (o : CallOutcome) (rs ws : List ℕ) (c : Result ℕ Refusal) (s' : Tables) (rs' ws' : List ℕ) : Type 0
+  where
+    pub answer : numbered c ≡ o.answer
+    pub after : s' ≡ o.after
+    pub report : rs' ≡ over o.words rs
+    pub answers : ws' ≡ over o.answers ws

@@ -1,13 +1,12 @@
 -- The run of 01, "Either side of each edge", its open line left out, as one call, with two records between that are
 -- refused by 16 and two that are refused by 17. proofs/Worked.antt shows that the definitions give it.
 -- Assumes nothing.
-use Rattle.std.specs.Prelude.{ℕ, List, [], ◌∷◌}
+use Rattle.std.specs.Prelude.{ℕ, List, [], ◌∷◌, Ok}
 use Rattle.rules.specs.Tables.{tables}
 use Rattle.step_kinds.specs.declared.Kind.{Kind}
 use Rattle.step_kinds.specs.declared.Kind.TheVariants.{New, Set, Get, Async, End}
 use Rattle.batch_record.specs.declared.Record.{Record}
 use Rattle.batch.specs.Batches.{CallOutcome}
-use Rattle.batch.specs.declared.Called.TheVariants.{Done}
 
 abbrev recorded : Kind → ℕ → ℕ → ℕ → ℕ → Record
 recorded k t p start n = record { kind = k; task = t; other = p; start = start; length = n }
@@ -36,7 +35,7 @@ worked_records =
 
 abbrev pub worked_outcome : CallOutcome
 worked_outcome = record {
-  answer = Done 6;
+  answer = Ok 6;
   after = tables (2 ∷ 2 ∷ 0 ∷ []) (1 ∷ 81 ∷ 0 ∷ 0 ∷ []);
   -- the ring, then who waited on promise 0, then the omitted promise
   words = 0 ∷ 1 ∷ 1 ∷ 0 ∷ 1 ∷ 1 ∷ [];

@@ -2,29 +2,42 @@
 // a theorem.
 #![tactic(auto)]
 
-ghost use Rattle.std.specs.Prelude.{◌≡◌, ◌<◌, length};
+ghost use Rattle.std.specs.Prelude.{◌≡◌, ◌<◌, List, length};
 ghost use Rattle.words.specs.Words.{small};
 ghost use Rattle.rules.specs.Tables.{tables as tables_of};
-ghost use Rattle.rules.specs.Refusals.{first};
+ghost use Rattle.rules.specs.Refusals.{first, refused_by};
+ghost use Rattle.steps.specs.Lending.{tables_lent, SameLoan};
+ghost use Rattle.batch_record.specs.declared.Record.{Record};
 ghost use Rattle.batch.specs.Batches.{record_at, has_room, call_rows, batched, Batches};
 
 use batch_record::{Record, turn};
+use rules::Refusal;
+use steps::Lent;
 use table_sound::tables_pass;
 use words::{Limit, room_for, sizes_in_bounds};
 
-// What the call answers: its refusal, by which nothing was written, or the number of report words that its steps gave.
-#[derive(Clone, Copy)]
-pub enum Called {
-    Refused(u16),
-    Done(usize),
+// The records of a call, wherever they lie.
+pub trait Records {
+    ghost listed: { Self → List Record };
+
+    fn count(&self) -> usize
+        ensures { result ≡ length (listed self.now) };
+
+    fn record_at(&self, i: usize) -> Record
+        requires { i < length (listed self.now) }
+        ensures { result ≡ record_at (listed self.now) i };
 }
 
-// The `i`-th record.
-fn record_at(records: &[Record], i: usize) -> Record
-    requires { i < length records.now }
-    ensures { result ≡ record_at records.now i }
-{
-    records[i]
+impl Records for &[Record] {
+    ghost listed = { λ records. records.now };
+
+    fn count(&self) -> usize {
+        self.len()
+    }
+
+    fn record_at(&self, i: usize) -> Record {
+        self[i]
+    }
 }
 
 // Whether the sizes are within their bounds, the records are not too many, and the report and the answers have room
@@ -35,58 +48,59 @@ fn has_room(tasks: usize, promises: usize, records: usize, report: usize, answer
     if Limit::RECORDS < records {
         return false;
     }
-    if sizes_in_bounds(tasks, promises) {
-        let reported = records * room_for(tasks, promises) <= report;
-        let answered = 4 * records <= answers;
-        return reported & answered;
+    if !sizes_in_bounds(tasks, promises) {
+        return false;
     }
-    false
+    records * room_for(tasks, promises) <= report && 4 * records <= answers
 }
 
-// Refusal 1 or 2 of the call, or 0; of the records, the report and the answers the lengths are told.
+// Refusals 1 and 2 of the call; of the records, the report and the answers the lengths are told.
 pub fn call_refusal(
     tasks: &[u16],
     promises: &[u16],
     records: usize,
     report: usize,
     answers: usize,
-) -> u16
-    ensures { result ≡ first (call_rows small (tables_of tasks.now promises.now) records report
+) -> Result<(), Refusal>
+    ensures { refused_by result ≡ first (call_rows small (tables_of tasks.now promises.now) records report
         answers) }
 {
-    if has_room(tasks.len(), promises.len(), records, report, answers) {
-        if tables_pass(tasks, promises) {
-            return 0;
-        }
-        return 2;
+    if !has_room(tasks.len(), promises.len(), records, report, answers) {
+        return Err(Refusal::OutOfBounds);
     }
-    1
+    if !tables_pass(tasks, promises) {
+        return Err(Refusal::Damaged);
+    }
+    Ok(())
 }
 
-// The call: for tables, a report and answers of any lengths, with any words in them, and any records and list.
-pub fn batch(
-    tasks: &mut [u16],
-    promises: &mut [u16],
-    report: &mut [u16],
-    records: &[Record],
+// The same, of what is lent.
+fn check(lent: &Lent<'_>, records: usize, answers: usize) -> Result<(), Refusal>
+    ensures { refused_by result ≡ first (call_rows small (tables_lent lent.now) records (length lent.now.report.now)
+        answers) }
+{
+    let report = lent.report.len();
+    call_refusal(lent.tasks, lent.promises, records, report, answers)
+}
+
+// The call: for tables, a report and answers of any lengths, with any words in them, and any records and list. Answers
+// how many report words its steps gave, or its refusal, by which nothing was written.
+pub fn batch<R: Records>(
+    lent: &mut Lent<'_>,
+    records: &R,
     list: &[u16],
     answers: &mut [u16],
-) -> Called
-    ensures { Batches (batched small list.now
-        (tables_of tasks.old promises.old) records.now (length report.old)
-        (length answers.old)) report.old answers.old result
-        (tables_of tasks.new promises.new) report.new answers.new }
+) -> Result<usize, Refusal>
+    ensures same_loan { SameLoan lent.old lent.new }
+    ensures batched { Batches (batched small list.now (tables_lent lent.old) (R.listed records.now)
+        (length lent.old.report.now) (length answers.old)) lent.old.report.now answers.old
+        result (tables_lent lent.new) lent.new.report.now answers.new }
 {
-    let refusal = call_refusal(tasks, promises, records.len(), report.len(), answers.len());
-    if refusal != 0 {
-        return Called::Refused(refusal);
-    }
+    let count = records.count();
+    check(lent, count, answers.len())?;
     let mut at = 0;
-    let mut i = 0;
-    while i < records.len() {
-        let r = record_at(records, i);
-        at = turn(tasks, promises, report, at, r, list, answers, i);
-        i += 1;
+    for i in 0..count {
+        at = turn(lent, at, records.record_at(i), list, answers, i);
     }
-    Called::Done(at)
+    Ok(at)
 }

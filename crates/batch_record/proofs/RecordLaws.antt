@@ -29,10 +29,12 @@ use Rattle.text_buffers.proofs.BufferLaws.{rest_lent}
 use Rattle.answer_words.specs.AnswerWords.{answer_words}
 use Rattle.answer_words.proofs.AnswerWordLaws.{answer_words_length}
 use Rattle.step_kinds.specs.Kinds.{shape_of, takes_list}
-use Rattle.steps.specs.Named.{step_by}
+use Rattle.steps.specs.Named.{of_rules, step_by}
+use Rattle.steps.specs.declared.Step as V
 use Rattle.steps.proofs.NamedLaws.{step_by_plain}
 use Rattle.batch_record.specs.declared.Record.{Record}
-use Rattle.batch_record.specs.Records.{listed_part, step_of, part_rows, raw_record, Turns}
+use Rattle.batch_record.specs.Records.{listed_part, step_of, part_rows, Names, raw_record, Turns}
+use Rattle.std.specs.Prelude.{Some}
 
 -- ---- refusal 16
 
@@ -54,25 +56,31 @@ part_not_given list r h = rw (within (takes_list (shape_of r.kind)) (length list
 
 -- ---- the step
 
-module _ (F : Form) (s : Tables) (list : List ℕ) (r : Record) where
-  pub record_refused : (rs : List ℕ) → takes_list (shape_of r.kind) ≡ true → length list < r.start + r.length
-      → Gives (raw_record F list s r) rs (Refused 16) s rs
-  record_refused rs k h = gives_refused _ s (raw F s (step_of list r)) rs (sym (part_given list r k h))
-      (eqb-false 16 0 refl)
+module _ (list : List ℕ) (r : Record) (v : V.Step) (m : List ℕ) where
+  -- a step without a list, whatever list it is given
+  pub names_plain : takes_list (shape_of r.kind) ≡ false → of_rules v ≡ step_by r.kind r.task r.other m
+      → Names list r (Some v)
+  names_plain h e = (
+    e ∙ step_by_plain r.kind r.task r.other m (listed_part list r) h,
+    part_not_given list r (λ z. absurd (true_is_not_false (sym z ∙ h))),
+  )
 
   -- a part within the list
-  pub part_taken : {s' : Tables} {rs rs' : List ℕ} {a : Answer} → r.start + r.length ≤ length list
-      → Gives (raw F s (step_of list r)) rs a s' rs' → Gives (raw_record F list s r) rs a s' rs'
-  part_taken h g = gives_passed _ s (sym (part_not_given list r (λ _. h))) refl g
+  pub names_part : r.start + r.length ≤ length list → m ≡ take r.length (drop r.start list)
+      → of_rules v ≡ step_by r.kind r.task r.other m → Names list r (Some v)
+  names_part h p e = (e ∙ ap (step_by r.kind r.task r.other) p, part_not_given list r (λ z. h))
 
-  -- a step without a list, whatever list it is given
-  pub plain_taken : {s' : Tables} {rs rs' : List ℕ} {a : Answer} → takes_list (shape_of r.kind) ≡ false
-      → Gives (raw F s (step_by r.kind r.task r.other list)) rs a s' rs'
-      → Gives (raw_record F list s r) rs a s' rs'
-  plain_taken {s'} {rs} {rs'} {a} h g =
-      gives_passed _ s (sym (part_not_given list r (λ z. absurd (true_is_not_false (sym z ∙ h))))) refl
-      (subst (λ (y : Step). Gives (raw F s y) rs a s' rs')
-      (step_by_plain r.kind r.task r.other list (listed_part list r) h) g)
+module _ (F : Form) (s : Tables) (list : List ℕ) (r : Record) where
+  -- the part passes the list's end
+  pub record_refused : (rs : List ℕ) → first (part_rows list r) ≡ 16
+      → Gives (raw_record F list s r) rs (Refused 16) s rs
+  record_refused rs e = gives_refused _ s (raw F s (step_of list r)) rs (sym e) (eqb-false 16 0 refl)
+
+  -- the step that the record names
+  pub record_taken : {x : Step} {s' : Tables} {rs rs' : List ℕ} {a : Answer} → x ≡ step_of list r
+      → first (part_rows list r) ≡ 0 → Gives (raw F s x) rs a s' rs' → Gives (raw_record F list s r) rs a s' rs'
+  record_taken {x} {s'} {rs} {rs'} {a} e h g =
+      gives_passed _ s (sym h) refl (subst (λ (y : Step). Gives (raw F s y) rs a s' rs') e g)
 
 -- ---- the words of a record's step
 

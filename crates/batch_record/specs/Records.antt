@@ -10,6 +10,7 @@
 --   Turns ..                  what the turn of a record leaves of the tables, the report and the answers
 -- Assumes nothing.
 use Rattle.std.specs.Prelude.{ℕ, ◌+◌, ◌*◌, ◌≡◌, List, [], ◌∷◌, ◌++◌, ◌&&◌, ltb, length, take, drop}
+use Rattle.std.specs.Prelude.{Option, Some, None}
 use Rattle.std.proofs.lemmas.List.Edits.{sets}
 use Rattle.words.specs.Words.{Form}
 use Rattle.rules.specs.Tables.{Tables}
@@ -18,7 +19,8 @@ use Rattle.rules.specs.Refusals.{Row, first, table_rows}
 use Rattle.rules.specs.Steps.{Step, Outcome, guarded, rows, raw}
 use Rattle.answer_words.specs.AnswerWords.{answer_words}
 use Rattle.step_kinds.specs.Kinds.{shape_of, takes_list}
-use Rattle.steps.specs.Named.{step_by}
+use Rattle.steps.specs.Named.{of_rules, step_by}
+use Rattle.steps.specs.declared.Step as V
 use Rattle.batch_record.specs.declared.Record.{Record}
 
 abbrev pub listed_part : List ℕ → Record → List ℕ
@@ -30,6 +32,11 @@ step_of list r = step_by r.kind r.task r.other (listed_part list r)
 -- "16, a list part whose start plus length passes the list's, stands for its step directly after 2"
 abbrev pub part_rows : List ℕ → Record → List Row
 part_rows list r = (16, takes_list (shape_of r.kind) && ltb (length list) (r.start + r.length)) ∷ []
+
+-- the step that the record names was found, or its part passes the list's end
+abbrev pub Names : List ℕ → Record → Option V.Step → Type 0
+Names list r (Some v) = (of_rules v ≡ step_of list r) × (first (part_rows list r) ≡ 0)
+Names list r None = first (part_rows list r) ≡ 16
 
 abbrev pub record_rows : Form → ℕ → List ℕ → Tables → Record → List Row
 record_rows F n list s r = table_rows F n s ++ (part_rows list r ++ rows F s (step_of list r))

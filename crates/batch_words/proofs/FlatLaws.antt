@@ -1,75 +1,51 @@
 -- Laws of specs/Flat.antt: a record of the words, their number, and the ways out of a call.
 -- Assumes nothing.
-use Prim.Native.Nat.{ℕ, zero, suc, ◌+◌, ◌*◌, ◌-◌, ◌/◌, ◌≤◌, ◌<◌}
+use Prim.Native.Nat.{ℕ, zero, suc, ◌+◌, ◌*◌, ◌/◌, ◌≤◌, ◌<◌, min}
 use mathlib.Core.Path.{◌≡◌, refl, sym, ap, ◌∙◌}
-use mathlib.Core.List.{List, [], ◌∷◌}
+use mathlib.Core.List.{List, [], ◌∷◌, ◌++◌}
 use mathlib.Core.Bool.{true, false, ◌&&◌}
 use native.Mathlib.Omega.{arith}
-use borrow.Author.Tests.{le-leb, lt-leb}
 use lib.Dec.{leb}
-use lib.ListN.{length, get_or, drop, length-drop, drop_of_length-le}
-use lib.Seq.{drop-cons}
+use lib.ListN.{length, take, drop}
 use Rattle.words.specs.Words.{Form}
 use Rattle.words.proofs.BoolLaws.{true_is_not_false, and_split}
 use Rattle.words.proofs.ListLaws.{over_none}
 use Rattle.rules.specs.Tables.{Tables}
-use Rattle.batch.specs.declared.Called.{Called}
-use Rattle.batch.specs.Batches.{record_at, batched, Batches}
-use Rattle.batch_words.specs.Flat.{record_in, records_of, is_flat, called_number, flatly, Flats}
-
--- ---- five words of a list
-
-five : (ws : List ℕ) (i : ℕ) → i + 5 ≤ length ws
-    → drop i ws ≡ get_or ws i 0 ∷ get_or ws (i + 1) 0 ∷ get_or ws (i + 2) 0 ∷ get_or ws (i + 3) 0
-    ∷ get_or ws (i + 4) 0 ∷ drop (i + 5) ws
-five ws i h =
-    let e₁ : i + 1 ≡ suc i = omega arith in
-    let e₂ : i + 2 ≡ suc (suc i) = omega arith in
-    let e₃ : i + 3 ≡ suc (suc (suc i)) = omega arith in
-    let e₄ : i + 4 ≡ suc (suc (suc (suc i))) = omega arith in
-    let e₅ : i + 5 ≡ suc (suc (suc (suc (suc i)))) = omega arith in
-    rw (
-      e₁,
-      e₂,
-      e₃,
-      e₄,
-      e₅,
-      drop-cons ws i 0 (omega arith),
-      drop-cons ws (suc i) 0 (omega arith),
-      drop-cons ws (suc (suc i)) 0 (omega arith),
-      drop-cons ws (suc (suc (suc i))) 0 (omega arith),
-      drop-cons ws (suc (suc (suc (suc i)))) 0 (omega arith),
-    )
+use Rattle.std.specs.Prelude.{Result, Ok, Err}
+use Rattle.rules.specs.declared.Refusal.{Refusal}
+use Rattle.rules.specs.declared.Refusal.TheVariants.{OutOfBounds}
+use Rattle.rules.specs.Refusals.{refused_by}
+use Rattle.batch.specs.Batches.{record_at, CallOutcome, batched, numbered, Batches}
+use Rattle.batch_words.specs.Flat.{record_in, records_of, is_record, is_flat, called_number, flatly, Flats}
 
 -- ---- whether the words are records
 
-flat_step : (ws : List ℕ) (i : ℕ) → i + 5 ≤ length ws
-    → is_flat (drop i ws) ≡ (leb (get_or ws i 0) 4 && is_flat (drop (i + 5) ws))
+-- the words of a chunk, which is short only at the end, and those behind it
+flat_chunk : (xs ws : List ℕ) → length xs ≡ min 5 (length (xs ++ ws)) → 0 < length (xs ++ ws)
+    → is_flat (xs ++ ws) ≡ (is_record xs && is_flat ws)
 unfolding is_flat
-flat_step ws i h = rw (five ws i h)
+flat_chunk [] [] e h = absurd (omega arith)
+flat_chunk [] (w ∷ ws) e h = absurd (omega arith)
+flat_chunk (k ∷ []) [] e h = refl
+flat_chunk (k ∷ []) (w ∷ ws) e h = absurd (omega arith)
+flat_chunk (k ∷ t ∷ []) [] e h = refl
+flat_chunk (k ∷ t ∷ []) (w ∷ ws) e h = absurd (omega arith)
+flat_chunk (k ∷ t ∷ o ∷ []) [] e h = refl
+flat_chunk (k ∷ t ∷ o ∷ []) (w ∷ ws) e h = absurd (omega arith)
+flat_chunk (k ∷ t ∷ o ∷ a ∷ []) [] e h = refl
+flat_chunk (k ∷ t ∷ o ∷ a ∷ []) (w ∷ ws) e h = absurd (omega arith)
+flat_chunk (k ∷ t ∷ o ∷ a ∷ n ∷ []) ws e h = refl
+flat_chunk (k ∷ t ∷ o ∷ a ∷ n ∷ x ∷ xs) ws e h = absurd (omega arith)
 
-pub flat_end : (ws : List ℕ) (i : ℕ) → length ws ≤ i → is_flat (drop i ws) ≡ true
+pub flat_next : (us xs ws : List ℕ) (n : ℕ) → n ≡ 5 → us ≡ xs ++ ws → length xs ≡ min n (length us) → 0 < length us
+    → is_flat us ≡ (is_record xs && is_flat ws)
+flat_next us xs ws n five e fit more =
+    rw e (flat_chunk xs ws (rw (e, five) at fit) (rw e at more))
+
+pub flat_end : (ws : List ℕ) → length ws ≡ 0 → is_flat ws ≡ true
 unfolding is_flat
-flat_end ws i h = rw (drop_of_length-le ws h)
-
-few : (ws : List ℕ) → 0 < length ws → length ws < 5 → is_flat ws ≡ false
-unfolding is_flat
-few [] h l = absurd (omega arith)
-few (k ∷ []) h l = refl
-few (k ∷ t ∷ []) h l = refl
-few (k ∷ t ∷ o ∷ []) h l = refl
-few (k ∷ t ∷ o ∷ a ∷ []) h l = refl
-few (k ∷ t ∷ o ∷ a ∷ n ∷ ws) h l = absurd (omega arith)
-
-pub flat_few : (ws : List ℕ) (i : ℕ) → i < length ws → length ws - i < 5 → is_flat (drop i ws) ≡ false
-flat_few ws i h l = few (drop i ws) (rw (length-drop i ws) (omega arith)) (rw (length-drop i ws) l)
-
-pub flat_no : (ws : List ℕ) (i : ℕ) → i + 5 ≤ length ws → 4 < get_or ws i 0 → is_flat (drop i ws) ≡ false
-flat_no ws i h k = rw (flat_step ws i h, lt-leb (get_or ws i 0) 4 k)
-
-pub flat_yes : (ws : List ℕ) (i : ℕ) → i + 5 ≤ length ws → get_or ws i 0 ≤ 4
-    → is_flat (drop (i + 5) ws) ≡ is_flat (drop i ws)
-flat_yes ws i h k = rw (flat_step ws i h, le-leb (get_or ws i 0) 4 k)
+flat_end [] e = refl
+flat_end (k ∷ ws) e = absurd (omega arith)
 
 -- records take whole fives
 pub flat_fives : (ws : List ℕ) → is_flat ws ≡ true → length ws ≡ (length ws / 5) * 5
@@ -83,58 +59,61 @@ flat_fives (k ∷ t ∷ o ∷ a ∷ n ∷ ws) e = omega (arith, flat_fives ws (a
 
 -- ---- the records
 
--- past the first five words
-record_in_past : (k t o a m : ℕ) (ws : List ℕ) (i : ℕ)
-    → record_in (k ∷ t ∷ o ∷ a ∷ m ∷ ws) (suc i * 5) ≡ record_in ws (i * 5)
-unfolding record_in
-record_in_past k t o a m ws i =
-    let e₀ : suc i * 5 ≡ suc (suc (suc (suc (suc (i * 5))))) = omega arith in
-    let e₁ : suc i * 5 + 1 ≡ suc (suc (suc (suc (suc (i * 5 + 1))))) = omega arith in
-    let e₂ : suc i * 5 + 2 ≡ suc (suc (suc (suc (suc (i * 5 + 2))))) = omega arith in
-    let e₃ : suc i * 5 + 3 ≡ suc (suc (suc (suc (suc (i * 5 + 3))))) = omega arith in
-    let e₄ : suc i * 5 + 4 ≡ suc (suc (suc (suc (suc (i * 5 + 4))))) = omega arith in
-    rw (e₁, e₂, e₃, e₄, e₀)
-
-pub records_count : (ws : List ℕ) (n : ℕ) → length ws ≡ n * 5 → length (records_of ws) ≡ n
+pub records_count : (ws : List ℕ) → length (records_of ws) ≡ length ws / 5
 unfolding records_of
-records_count [] n e = omega arith
-records_count (k ∷ []) n e = absurd (omega arith)
-records_count (k ∷ t ∷ []) n e = absurd (omega arith)
-records_count (k ∷ t ∷ o ∷ []) n e = absurd (omega arith)
-records_count (k ∷ t ∷ o ∷ a ∷ []) n e = absurd (omega arith)
-records_count (k ∷ t ∷ o ∷ a ∷ m ∷ ws) n e = omega (arith, records_count ws (n - 1) (omega arith))
+records_count [] = refl
+records_count (k ∷ []) = refl
+records_count (k ∷ t ∷ []) = refl
+records_count (k ∷ t ∷ o ∷ []) = refl
+records_count (k ∷ t ∷ o ∷ a ∷ []) = refl
+records_count (k ∷ t ∷ o ∷ a ∷ m ∷ ws) = omega (arith, records_count ws)
 
--- the i-th record is that of the five words from i * 5 on
-pub records_at : (ws : List ℕ) (i n : ℕ) → length ws ≡ n * 5 → i < n
-    → record_in ws (i * 5) ≡ record_at (records_of ws) i
+-- the words of each record stand within the others
+pub records_within : (ws : List ℕ) (i : ℕ) → i < length (records_of ws) → 5 * i + 5 ≤ length ws
+records_within ws i h = omega (arith, records_count ws)
+
+-- the i-th record is that of the five words behind those of the records before it
+pub records_at : (ws : List ℕ) (i : ℕ) → i < length (records_of ws)
+    → record_in (take 5 (drop (5 * i) ws)) 0 ≡ record_at (records_of ws) i
 unfolding records_of record_in
-records_at [] i n e h = absurd (omega arith)
-records_at (k ∷ []) i n e h = absurd (omega arith)
-records_at (k ∷ t ∷ []) i n e h = absurd (omega arith)
-records_at (k ∷ t ∷ o ∷ []) i n e h = absurd (omega arith)
-records_at (k ∷ t ∷ o ∷ a ∷ []) i n e h = absurd (omega arith)
-records_at (k ∷ t ∷ o ∷ a ∷ m ∷ ws) zero n e h = refl
-records_at (k ∷ t ∷ o ∷ a ∷ m ∷ ws) (suc i) n e h =
-    record_in_past k t o a m ws i ∙ records_at ws i (n - 1) (omega arith) (omega arith)
+records_at [] i h = absurd (omega arith)
+records_at (k ∷ []) i h = absurd (omega arith)
+records_at (k ∷ t ∷ []) i h = absurd (omega arith)
+records_at (k ∷ t ∷ o ∷ []) i h = absurd (omega arith)
+records_at (k ∷ t ∷ o ∷ a ∷ []) i h = absurd (omega arith)
+records_at (k ∷ t ∷ o ∷ a ∷ m ∷ ws) zero h = refl
+records_at (k ∷ t ∷ o ∷ a ∷ m ∷ ws) (suc i) h =
+    let e : 5 * suc i ≡ suc (suc (suc (suc (suc (5 * i))))) = omega arith in
+    rw e (records_at ws i (omega arith))
 
 -- ---- the ways out of a call
 
 module _ (F : Form) (list : List ℕ) (s : Tables) (ws rs vs : List ℕ) where
   -- the words are no records
-  pub flat_refused : is_flat ws ≡ false → Flats (flatly F list s ws (length rs) (length vs)) rs vs 1 s rs vs
-  unfolding flatly called_number
+  pub flat_refused : is_flat ws ≡ false
+      → Batches (flatly F list s ws (length rs) (length vs)) rs vs (Err OutOfBounds) s rs vs
+  unfolding flatly
   flat_refused e = rw e (record
-      { number = refl; after = refl; report = sym (over_none rs); answers = sym (over_none vs) })
+      { answer = refl; after = refl; report = sym (over_none rs); answers = sym (over_none vs) })
 
   -- they are the call by the records
-  pub flat_batches : {c : Called} {r : ℕ} {s' : Tables} {rs' vs' : List ℕ} → is_flat ws ≡ true
-      → Batches (batched F list s (records_of ws) (length rs) (length vs)) rs vs c s' rs' vs' → r ≡ called_number c
-      → Flats (flatly F list s ws (length rs) (length vs)) rs vs r s' rs' vs'
+  pub flat_batches : {c : Result ℕ Refusal} {s' : Tables} {rs' vs' : List ℕ} → is_flat ws ≡ true
+      → Batches (batched F list s (records_of ws) (length rs) (length vs)) rs vs c s' rs' vs'
+      → Batches (flatly F list s ws (length rs) (length vs)) rs vs c s' rs' vs'
   unfolding flatly
-  flat_batches e g h =
-      rw e (record {
-        number = h ∙ ap called_number g.answer;
-        after = g.after;
-        report = g.report;
-        answers = g.answers;
-      })
+  flat_batches e g = rw e g
+
+-- the answer to the call as a number
+as_number : (c : Result ℕ Refusal) → refused_by c ≡ called_number (numbered c)
+unfolding called_number
+as_number (Ok n) = refl
+as_number (Err r) = refl
+
+pub flat_number : {o : CallOutcome} {rs vs : List ℕ} {c : Result ℕ Refusal} {r : ℕ} {s' : Tables} {rs' vs' : List ℕ}
+    → Batches o rs vs c s' rs' vs' → r ≡ refused_by c → Flats o rs vs r s' rs' vs'
+flat_number {c = c} g e = record {
+  number = e ∙ as_number c ∙ ap called_number g.answer;
+  after = g.after;
+  report = g.report;
+  answers = g.answers;
+}

@@ -4,21 +4,21 @@
 --   record_by k t o a n     the record of five words
 --   record_in ws i          the record whose words begin at i
 --   records_of ws           the records that the words stand for
+--   is_record ws            the words are a record of one of the five kinds
 --   is_flat ws              the words are whole records, each of one of the five kinds
 --   called_number c         the answer to a call as a number: its refusal, or 0
 --   flatly F list s ws m k  the outcome of a call by words: refused by 1 if they are no records, else that of the
 --                           call by the records
 --   Flats ..                what a call by words returns, and leaves of the tables, the report and the answers
 -- Assumes nothing.
-use Rattle.std.specs.Prelude.{ℕ, ◌+◌, ◌≡◌, List, [], ◌∷◌, Bool, true, false, cond, ◌&&◌, eqb, leb, get_or}
+use Rattle.std.specs.Prelude.{ℕ, ◌+◌, ◌≡◌, List, [], ◌∷◌, Bool, true, false, cond, ◌&&◌, eqb, leb, get_or, length}
+use Rattle.std.specs.Prelude.{Result, Ok, Err}
 use Rattle.words.specs.Words.{Form}
 use Rattle.words.specs.Lists.{over}
 use Rattle.rules.specs.Tables.{Tables}
 use Rattle.step_kinds.specs.declared.Kind.{Kind}
 use Rattle.step_kinds.specs.declared.Kind.TheVariants.{New, Set, Get, Async, End}
 use Rattle.batch_record.specs.declared.Record.{Record}
-use Rattle.batch.specs.declared.Called.{Called}
-use Rattle.batch.specs.declared.Called.TheVariants.{Refused, Done}
 use Rattle.batch.specs.Batches.{CallOutcome, refused, batched}
 
 -- in the order of the paper
@@ -41,6 +41,9 @@ records_of (k ∷ t ∷ o ∷ []) = []
 records_of (k ∷ t ∷ o ∷ a ∷ []) = []
 records_of (k ∷ t ∷ o ∷ a ∷ n ∷ ws) = record_by k t o a n ∷ records_of ws
 
+abbrev pub is_record : List ℕ → Bool
+is_record ws = eqb (length ws) 5 && leb (get_or ws 0 0) 4
+
 unfoldable pub is_flat : List ℕ → Bool
 is_flat [] = true
 is_flat (k ∷ []) = false
@@ -51,9 +54,9 @@ is_flat (k ∷ t ∷ o ∷ a ∷ n ∷ ws) = leb k 4 && is_flat ws
 
 -- ---- the call
 
-unfoldable pub called_number : Called → ℕ
-called_number (Refused r) = r
-called_number (Done n) = 0
+unfoldable pub called_number : Result ℕ ℕ → ℕ
+called_number (Ok n) = 0
+called_number (Err r) = r
 
 -- refused by 1 with nothing written, or the call by the records that the words stand for
 unfoldable pub flatly : Form → List ℕ → Tables → List ℕ → ℕ → ℕ → CallOutcome

@@ -1,7 +1,7 @@
 // The registry for C and Rust: the steps as exported functions on numbers and slices of 16-bit words. A slice passes
 // as a pointer and a length. A step returns its answer's number and writes four words to `answer`: the number, then
 // the answer's values, 0 where it has none. A batch takes its records as five words each, and returns the refusal of
-// the call, or 0.
+// the call, or 0. The C interface needs the slices one by one, and a number for an answer.
 #![tactic(auto)]
 
 ghost use Rattle.std.specs.Prelude.{◌≡◌, length};
@@ -10,13 +10,13 @@ ghost use Rattle.rules.specs.Tables.{tables as tables_of};
 ghost use Rattle.rules.specs.Sound.{is_sound};
 ghost use Rattle.rules.specs.Steps.{step_new, step_set, step_get, step_async, step_end};
 ghost use Rattle.rules.specs.StepContracts.{Freshens};
-ghost use Rattle.steps.specs.Named.{step_by};
+ghost use Rattle.steps.specs.Named.{of_rules};
 ghost use Rattle.batch_words.specs.Flat.{flatly, Flats};
 ghost use Rattle.registry.specs.Exports.{ExportsStep};
 
 use answer_words::tell;
-use step_kinds::Kind;
-use steps::step;
+use rules::Refusal;
+use steps::{Lent, Step};
 
 // Whether the tables are sound; those that are too short or too long are not.
 #[unsafe(no_mangle)]
@@ -32,29 +32,33 @@ pub extern "C" fn registry_fresh(tasks: &mut [u16], promises: &mut [u16]) -> u16
     ensures { Freshens small (tables_of tasks.old promises.old)
         result (tables_of tasks.new promises.new) }
 {
-    table_fresh::fresh(tasks, promises)
+    if let Err(refusal) = table_fresh::fresh(tasks, promises) {
+        return refusal.number();
+    }
+    0
 }
 
-// A step of the kind, its answer told in `answer`; refused by 1 if that has fewer than four words.
+// The step, its answer told in `answer`; refused by 1 if that has fewer than four words.
 fn step_told(
     tasks: &mut [u16],
     promises: &mut [u16],
     report: &mut [u16],
-    kind: Kind,
-    t: u16,
-    p: u16,
-    list: &[u16],
+    step: Step<'_>,
     answer: &mut [u16],
 ) -> u16
-    ensures { ExportsStep (step_by kind t p list.now)
-        (tables_of tasks.old promises.old)
+    ensures { ExportsStep (of_rules step.entry) (tables_of tasks.old promises.old)
         report.old answer.old
         result (tables_of tasks.new promises.new) report.new answer.new }
 {
     if answer.len() < 4 {
-        return 1;
+        return Refusal::OutOfBounds.number();
     }
-    tell(answer, step(tasks, promises, report, kind, t, p, list))
+    let mut lent = Lent {
+        tasks,
+        promises,
+        report,
+    };
+    tell(answer, lent.take(step))
 }
 
 #[unsafe(no_mangle)]
@@ -70,7 +74,7 @@ pub extern "C" fn registry_step_new(
         report.old answer.old
         result (tables_of tasks.new promises.new) report.new answer.new }
 {
-    step_told(tasks, promises, report, Kind::New, t, p, &[], answer)
+    step_told(tasks, promises, report, Step::New(t, p), answer)
 }
 
 #[unsafe(no_mangle)]
@@ -86,7 +90,7 @@ pub extern "C" fn registry_step_set(
         report.old answer.old
         result (tables_of tasks.new promises.new) report.new answer.new }
 {
-    step_told(tasks, promises, report, Kind::Set, t, p, &[], answer)
+    step_told(tasks, promises, report, Step::Set(t, p), answer)
 }
 
 #[unsafe(no_mangle)]
@@ -102,7 +106,7 @@ pub extern "C" fn registry_step_get(
         report.old answer.old
         result (tables_of tasks.new promises.new) report.new answer.new }
 {
-    step_told(tasks, promises, report, Kind::Get, t, p, &[], answer)
+    step_told(tasks, promises, report, Step::Get(t, p), answer)
 }
 
 #[unsafe(no_mangle)]
@@ -120,7 +124,7 @@ pub extern "C" fn registry_step_async(
         report.old answer.old
         result (tables_of tasks.new promises.new) report.new answer.new }
 {
-    step_told(tasks, promises, report, Kind::Async, t, c, list, answer)
+    step_told(tasks, promises, report, Step::Async(t, c, list), answer)
 }
 
 #[unsafe(no_mangle)]
@@ -135,7 +139,7 @@ pub extern "C" fn registry_step_end(
         report.old answer.old
         result (tables_of tasks.new promises.new) report.new answer.new }
 {
-    step_told(tasks, promises, report, Kind::End, t, 0, &[], answer)
+    step_told(tasks, promises, report, Step::End(t), answer)
 }
 
 #[unsafe(no_mangle)]
@@ -152,5 +156,13 @@ pub extern "C" fn registry_batch(
         report.old answers.old
         result (tables_of tasks.new promises.new) report.new answers.new }
 {
-    batch_words::batch_words(tasks, promises, report, steps, list, answers)
+    let mut lent = Lent {
+        tasks,
+        promises,
+        report,
+    };
+    match batch_words::batch_words(&mut lent, steps, list, answers) {
+        Ok(_) => 0,
+        Err(refusal) => refusal.number(),
+    }
 }

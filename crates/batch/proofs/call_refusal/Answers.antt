@@ -7,22 +7,21 @@ use Rattle.rules.proofs.BoundsLaws.{sizes_fit_of}
 use Rattle.batch.proofs.BatchLaws.{has_room_true}
 use Rattle.batch.proofs.call_refusal.Goals as goal
 
+pub returns-then-not-has_room : goal.returns-then-not-has_room
+unfolding first
+returns-then-not-has_room c = rw (← c.has_room.ensures, c.if-not-has_room.true)
+
 pub tables_pass-requires : goal.tables_pass-requires
 tables_pass-requires c =
-    let a = c.args in
-    sizes_fit_of small (tables a.tasks.now a.promises.now)
-    (has_room_true small _ _ _ _ _ (sym c.has_room.ensures ∙ c.if-has_room.true)).sizes
+    sizes_fit_of small (tables c.args.tasks.now c.args.promises.now)
+    (has_room_true small _ _ _ _ _ (sym c.has_room.ensures ∙ c.if-not-has_room.false)).sizes
 
-pub returns-then-tables_pass : goal.returns-then-tables_pass
+pub returns-then-not-tables_pass : goal.returns-then-not-tables_pass
 unfolding first
-returns-then-tables_pass c =
-    rw (← c.has_room.ensures, c.if-has_room.true, ← c.tables_pass.ensures, c.if-tables_pass.true)
-
-pub returns-then-has_room : goal.returns-then-has_room
-unfolding first
-returns-then-has_room c =
-    rw (← c.has_room.ensures, c.if-has_room.true, ← c.tables_pass.ensures, c.if-tables_pass.false)
+returns-then-not-tables_pass c =
+    rw (← c.has_room.ensures, c.if-not-has_room.false, ← c.tables_pass.ensures, c.if-not-tables_pass.true)
 
 pub returns : goal.returns
 unfolding first
-returns c = rw (← c.has_room.ensures, c.if-has_room.false)
+returns c =
+    rw (← c.has_room.ensures, c.if-not-has_room.false, ← c.tables_pass.ensures, c.if-not-tables_pass.false)

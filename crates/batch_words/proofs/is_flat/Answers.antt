@@ -1,25 +1,28 @@
--- The words from i on are records if all are. Assumes nothing.
-use mathlib.Core.Path.{refl, sym, ◌∙◌}
+-- The words that are left are records if all are. Assumes nothing.
+use mathlib.Core.Path.{sym, ◌∙◌}
 use native.Mathlib.Omega.{arith}
 use borrow.Author.Rules.{rules}
-use Rattle.batch_words.proofs.FlatLaws.{flat_yes, flat_end, flat_few, flat_no}
+use Rattle.batch_words.proofs.FlatLaws.{flat_next, flat_end}
 use Rattle.batch_words.proofs.is_flat.Goals as goal
 
-pub loop-i-init : goal.loop-i-init
-loop-i-init c = (search rules, refl)
+pub returns-then-not-is_record : goal.returns-then-not-is_record
+returns-then-not-is_record c =
+    let (first, fit, more) = c.in-Some.ensures.steps.1 in
+    let here = flat_next _ _ _ _ c.loop-five.invariant.fives first fit more in
+    let bad = rw (← c.is_record.ensures, c.if-not-is_record.true) at here in
+    sym bad ∙ c.loop-five.invariant.rest
 
-pub returns-then-steps-i-lt5 : goal.returns-then-steps-i-lt5
-returns-then-steps-i-lt5 c =
-    sym (flat_few c.args.steps.now c.loop-i.i c.loop-i-test.true c.if-steps-i-lt5.true) ∙ c.loop-i.invariant.1
-
-pub returns-then-steps-i-gt4 : goal.returns-then-steps-i-gt4
-returns-then-steps-i-gt4 c =
-    sym (flat_no c.args.steps.now c.loop-i.i (omega arith) c.if-steps-i-gt4.true) ∙ c.loop-i.invariant.1
-
-pub loop-i-preserved : goal.loop-i-preserved
-loop-i-preserved c =
-    let more = flat_yes c.args.steps.now c.loop-i.i (omega arith) c.if-steps-i-gt4.false in
-    (omega arith, more ∙ c.loop-i.invariant.1)
+pub loop-five-preserved : goal.loop-five-preserved
+loop-five-preserved c =
+    let (first, fit, more) = c.in-Some.ensures.steps.1 in
+    let here = flat_next _ _ _ _ c.loop-five.invariant.fives first fit more in
+    let good = rw (← c.is_record.ensures, c.if-not-is_record.false) at here in
+    record {
+      can_next = omega (arith, c.in-Some.ensures.steps.0);
+      ends = search rules;
+      fives = c.in-Some.ensures.steps.0 ∙ c.loop-five.invariant.fives;
+      rest = sym good ∙ c.loop-five.invariant.rest;
+    }
 
 pub returns : goal.returns
-returns c = sym (flat_end c.args.steps.now c.loop-i.i c.loop-i-test.false) ∙ c.loop-i.invariant.1
+returns c = sym (flat_end _ c.in-None.ensures.steps.1.0) ∙ c.loop-five.invariant.rest
