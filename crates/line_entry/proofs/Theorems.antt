@@ -8,7 +8,9 @@ use Rattle.words.specs.Lists.{over}
 use Rattle.words.proofs.ListLaws.{over_none}
 use Rattle.rules.specs.Tables.{Tables}
 use Rattle.rules.specs.Answers.{number_of}
-use Rattle.rules.specs.Demands.{Refusal}
+use Rattle.std.proofs.Common.{Result}
+use Rattle.rules.specs.Demands.{Refusal as Refuses}
+use Rattle.rules.specs.declared.Refusal.{Refusal}
 use Rattle.text_forms.specs.Forms.{ColumnOf}
 use Rattle.text_forms.specs.Judging.{line_form, entries_of}
 use Rattle.text_forms.proofs.Theorems.{bad_column, column_found}
@@ -22,7 +24,7 @@ use Rattle.line_entry.specs.Lines.{OnlyAnswerLine}
 
 -- A REFUSED LINE ONLY GETS ITS ANSWER LINE
 pub a_refused_line_only_gets_its_answer_line : (line : List ℕ) (n : ℕ) (session : Session) (st : Tables)
-    (rs out : List ℕ) → Refusal (line_deed line session st (length rs)).answer
+    (rs out : List ℕ) → Refuses (line_deed line session st (length rs)).answer
     → OnlyAnswerLine (entry_of line n session st rs out) session st rs
 unfolding entry_of
 a_refused_line_only_gets_its_answer_line line n session st rs out r =
@@ -61,14 +63,10 @@ only_a_bad_line_is_answered_by_14 line session st n e =
     (c, bad_column line c b)
 
 -- 01, "How much each contract must say": any two outcomes that the contract of `enter` allows coincide
-pub enters_unique : {e : Entry} {r q : Entered} {st st' : Tables} {rs rs' out out' : List ℕ} → Enters e r st rs out
-    → Enters e q st' rs' out'
-    → (r.number ≡ q.number) × (r.session ≡ q.session) × (r.bytes ≡ q.bytes) × (st ≡ st') × (rs ≡ rs')
-    × (out ≡ out')
+pub enters_unique : {e : Entry} {r q : Result Entered Refusal} {st st' : Tables} {rs rs' out out' : List ℕ}
+    → Enters e r st rs out → Enters e q st' rs' out' → (r ≡ q) × (st ≡ st') × (rs ≡ rs') × (out ≡ out')
 enters_unique g h = (
-  g.number ∙ sym h.number,
-  g.session ∙ sym h.session,
-  g.bytes ∙ sym h.bytes,
+  g.told ∙ sym h.told,
   g.after ∙ sym h.after,
   g.report ∙ sym h.report,
   g.answer ∙ sym h.answer,

@@ -7,10 +7,14 @@
 --                                  length after a line
 --   held_line x n                  the line that a buffer x gathered, of which n bytes were counted; reply_of x n is
 --                                  its entry
+--   told_of e                      what a call tells of the entry e
 --   Enters ..                      a call answered and left these
 --   OnlyAnswerLine e session s rs  the entry e has an answer line and leaves all else
 -- Assumes nothing.
 use Rattle.std.specs.Prelude.{ℕ, suc, ◌≡◌, List, Bool, cond, ◌&&◌, eqb, leb, ltb, length, take, replicate}
+use Rattle.std.specs.Prelude.{Result, Ok, Err}
+use Rattle.rules.specs.declared.Refusal.{Refusal}
+use Rattle.rules.specs.declared.Refusal.TheVariants.{OutOfBounds}
 use Rattle.words.specs.Words.{last_line, longest_line, longest_answer, of_lines, line_report}
 use Rattle.words.specs.Lists.{over}
 use Rattle.rules.specs.Tables.{Tables}
@@ -72,10 +76,12 @@ held_line x n = cond (ltb (length x) n) (replicate (suc longest_line) 0) (take n
 abbrev pub reply_of : List ℕ → ℕ → ℕ → Session → Tables → List ℕ → List ℕ → Entry
 reply_of x n = entry_of (held_line x n)
 
-pub record Enters (e : Entry) (r : Entered) (st : Tables) (rs out : List ℕ) : Type 0 where
-  pub number : r.number ≡ e.number
-  pub session : r.session ≡ e.session
-  pub bytes : r.bytes ≡ e.bytes
+-- the refusal of the number 1, or else the session value and the answer line's length
+unfoldable pub told_of : Entry → Result Entered Refusal
+told_of e = cond (eqb e.number 0) (Ok (record { session = e.session; bytes = e.bytes })) (Err OutOfBounds)
+
+pub record Enters (e : Entry) (r : Result Entered Refusal) (st : Tables) (rs out : List ℕ) : Type 0 where
+  pub told : r ≡ told_of e
   pub after : st ≡ e.after
   pub report : rs ≡ e.report
   pub answer : out ≡ e.out

@@ -6,23 +6,23 @@ ghost use Rattle.words.specs.Words.{of_lines};
 ghost use Rattle.rules.specs.Tables.{tables as tables_of};
 ghost use Rattle.text_forms.specs.Judging.{entries_of, may_list, Judged};
 ghost use Rattle.line_session.specs.Sessions.{in_session, Does};
-ghost use Rattle.line_entry.specs.Lines.{lent_well, line_deed, entered, held_line, entry_of, reply_of, Enters};
+ghost use Rattle.line_entry.specs.Lines.{lent_well, line_deed, held_line, entry_of, reply_of, Enters};
 
 use answer_text::put_answer;
 use line_session::{Done, Session, act, in_session};
-use text_forms::{LineForm, judge};
+use rules::Refusal;
+use text_forms::{BadLine, LineForm, judge};
 use words::Limit;
 
-// What the line entry answers: 1 if what it was lent is not as it must be, and then nothing was written, otherwise 0;
-// the session value from then on; and how many bytes the answer line has, its LF included.
+// What the line entry answers: the session value from then on, and how many bytes the answer line has, its LF included.
 #[derive(Clone, Copy)]
 pub struct Entered {
-    pub number: u16,
     pub session: Session,
     pub bytes: usize,
 }
 
 // Whether the line number, the session value and the lengths of what is lent are as they must be.
+#[tactic(auto, unfolding(crate::specs::Lines::lent_well))]
 fn lent_well(
     number: u32,
     session: Session,
@@ -34,33 +34,30 @@ fn lent_well(
     ensures { result ≡ lent_well number session (tables_of tasks.now promises.now)
         report answer }
 {
-    let numbered = (1 <= number) & (number <= Limit::LINES);
-    let tables = (tasks.len() == Limit::TASKS) & (promises.len() == Limit::PROMISES);
-    let room = (report == Limit::REPORT) & (Limit::ANSWER <= answer);
-    numbered & in_session(session) & tables & room
+    let numbered = (1..=Limit::LINES).contains(&number);
+    let sized = tasks.len() == Limit::TASKS && promises.len() == Limit::PROMISES;
+    let roomy = report == Limit::REPORT && Limit::ANSWER <= answer;
+    numbered && in_session(session) && sized && roomy
 }
 
 // The form of the line that the buffer gathered, of which `have` bytes were counted.
-fn judge_held(line: &[u8], have: usize, list: &mut [u16]) -> LineForm
+fn judge_held(line: &[u8], have: usize, list: &mut [u16]) -> Result<LineForm, BadLine>
     ensures { Judged (held_line line.now have) list.old list.new result }
 {
     if line.len() < have {
-        return LineForm::Bad(Limit::LINE as u16);
+        return Err(BadLine {
+            column: Limit::LINE as u16,
+        });
     }
-    judge(&line[0..have], list)
+    judge(&line[..have], list)
 }
 
 // Whether that line starts as one with a list does: with the first byte of the word `async`.
+#[tactic(auto, using(crate::proofs::LineLaws::starts))]
 fn may_list(line: &[u8], have: usize) -> bool
     ensures { result ≡ may_list (held_line line.now have) }
 {
-    if have == 0 {
-        return false;
-    }
-    if have <= line.len() {
-        return line[0] == 97;
-    }
-    false
+    0 < have && have <= line.len() && line[0] == b'a'
 }
 
 // What the line does, where `list` has room for the entries of its list.
@@ -123,37 +120,8 @@ fn act_held(
     act_with(line, have, session, &mut [], tasks, promises, report)
 }
 
-// The reply, where all that is lent is as it must be.
-fn answer_line(
-    line: &[u8],
-    have: usize,
-    number: u32,
-    session: Session,
-    tasks: &mut [u16],
-    promises: &mut [u16],
-    report: &mut [u16],
-    answer: &mut [u8],
-) -> Entered
-    requires { lent_well number session (tables_of tasks.old promises.old)
-        (length report.old) (length answer.old) ≡ true }
-    ensures { Enters (entered number report.old answer.old
-        (line_deed (held_line line.now have) session (tables_of tasks.old promises.old)
-        (length report.old)))
-        result (tables_of tasks.new promises.new) report.new answer.new }
-{
-    let done = act_held(line, have, session, tasks, promises, report);
-    let told = done.answer;
-    let next = done.session;
-    let bytes = put_answer(answer, number, told, report);
-    Entered {
-        number: 0,
-        session: next,
-        bytes,
-    }
-}
-
 // The answer to a line that the buffer `line` gathered, without its LF. `have` of its bytes were counted: more than the
-// buffer holds say that the line is too long.
+// buffer holds say that the line is too long. Where what is lent isn't as it must be, nothing is written.
 pub fn reply(
     line: &[u8],
     have: usize,
@@ -163,19 +131,20 @@ pub fn reply(
     promises: &mut [u16],
     report: &mut [u16],
     answer: &mut [u8],
-) -> Entered
+) -> Result<Entered, Refusal>
     ensures { Enters (reply_of line.now have number session
         (tables_of tasks.old promises.old) report.old answer.old)
         result (tables_of tasks.new promises.new) report.new answer.new }
 {
-    if lent_well(number, session, tasks, promises, report.len(), answer.len()) {
-        return answer_line(line, have, number, session, tasks, promises, report, answer);
+    if !lent_well(number, session, tasks, promises, report.len(), answer.len()) {
+        return Err(Refusal::OutOfBounds);
     }
-    Entered {
-        number: 1,
-        session,
-        bytes: 0,
-    }
+    let done = act_held(line, have, session, tasks, promises, report);
+    let bytes = put_answer(answer, number, done.answer, report);
+    Ok(Entered {
+        session: done.session,
+        bytes,
+    })
 }
 
 // The line entry: takes a line without its LF, and writes one answer line.
@@ -187,7 +156,7 @@ pub fn enter(
     promises: &mut [u16],
     report: &mut [u16],
     answer: &mut [u8],
-) -> Entered
+) -> Result<Entered, Refusal>
     ensures { Enters (entry_of line.now number session
         (tables_of tasks.old promises.old) report.old answer.old)
         result (tables_of tasks.new promises.new) report.new answer.new }

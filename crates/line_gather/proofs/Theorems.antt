@@ -2,10 +2,9 @@
 -- it; and its count tells a line that is too long from one that just fits. Any two outcomes of a function coincide.
 -- Assumes nothing.
 use Prim.Native.Nat.{ℕ, ◌+◌, ◌≤◌, ◌<◌}
+use Rattle.std.proofs.Common.{Option}
 use mathlib.Core.List.{List, [], ◌++◌, append-nil}
-use mathlib.Core.Bool.{Bool, true, false, cond}
-use lib.Dec.{ltb}
-use Rattle.text_fields.specs.Fields.{line_end, end_from}
+use mathlib.Core.Bool.{Bool}
 use mathlib.Core.Path.{◌≡◌, refl, ap, sym, ◌∙◌}
 use native.Mathlib.Omega.{arith}
 use native.Mathlib.Decide.{dec_lt}
@@ -17,9 +16,7 @@ use Rattle.words.proofs.ListLaws.{over_none, over_length}
 use Rattle.text_buffers.proofs.BufferLaws.{over_is, fitting_none, fitting_room, fitting_most, fitting_full}
 use Rattle.text_buffers.proofs.BufferLaws.{fitting_past, wrote_added}
 use Rattle.line_gather.specs.declared.Got.{Got}
-use Rattle.line_gather.specs.declared.Got.TheVariants as G
-use Rattle.line_gather.specs.declared.Numbering.{Numbering}
-use Rattle.line_gather.specs.Gather.{piece_of, counted, got_of, count_got, Gathered, Holds, is_last, number_after}
+use Rattle.line_gather.specs.Gather.{piece_of, counted, got_of, Gathered, Holds, is_last, number_after}
 
 -- ---- the line so far
 
@@ -69,16 +66,9 @@ holds_piece t o x y s n from h r g = record { bytes = go (dec_lt (length o) (len
 
 -- and that count is the one that the answer holds
 pub gathered_counts : (o s x : List ℕ) (have from : ℕ) (r : Got) → Gathered o have s from x r
-    → count_got r ≡ counted (length o) (have + length (piece_of s from))
-unfolding got_of count_got
-gathered_counts o s x have from r g = ap count_got g.answer ∙ go (ltb (end_from line_end s from) (length s))
-  where
-    n : ℕ
-    n = counted (length o) (have + length (piece_of s from))
-
-    go : (b : Bool) → count_got (cond b (G.Line n (end_from line_end s from + 1)) (G.More n)) ≡ n
-    go true = refl
-    go false = refl
+    → r.count ≡ counted (length o) (have + length (piece_of s from))
+unfolding got_of
+gathered_counts o s x have from r g = ap (λ (h : Got). h.count) g.answer
 
 -- A LINE THAT FITS IS THERE, WHOLE
 pub holds_whole : (t o x : List ℕ) (n : ℕ) → Holds t o x n → n ≤ length o → (n ≡ length t) × (take n x ≡ t)
@@ -111,5 +101,5 @@ gather_unique a b = (a.bytes ∙ sym b.bytes, a.answer ∙ sym b.answer)
 pub is_last_unique : (have : ℕ) {p q : Bool} → p ≡ is_last have → q ≡ is_last have → p ≡ q
 is_last_unique have e f = e ∙ sym f
 
-pub number_after_unique : (n : ℕ) {p q : Numbering} → p ≡ number_after n → q ≡ number_after n → p ≡ q
+pub number_after_unique : (n : ℕ) {p q : Option ℕ} → p ≡ number_after n → q ≡ number_after n → p ≡ q
 number_after_unique n e f = e ∙ sym f

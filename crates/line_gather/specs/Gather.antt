@@ -6,7 +6,6 @@
 --   counted L n               how many bytes of a line are there, up to one more than a buffer of L holds: that says
 --                             that it is too long
 --   got_of L have s at        what a block brings to a line of which `have` bytes are there
---   count_got r               the count in such an answer
 --   gathered_in o have s at   what the buffer o holds then
 --   Gathered o have s at x r  the block s was gathered from `at` on into the buffer o: x is what it holds then, and r
 --                             the answer
@@ -15,14 +14,12 @@
 -- Theorems.antt: block by block the buffer holds the whole line so far, or says that it is too long.
 -- Assumes nothing.
 use Rattle.std.specs.Prelude.{ℕ, ◌+◌, min, List, ◌++◌, Bool, true, false, cond, ◌≡◌, length, take, drop, ltb, eqb}
+use Rattle.std.specs.Prelude.{Option, Some, None}
 use Rattle.words.specs.Words.{last_line}
 use Rattle.words.specs.Lists.{over}
 use Rattle.text_buffers.specs.Buffers.{fitting}
 use Rattle.text_fields.specs.Fields.{line_end, run_to, end_from}
 use Rattle.line_gather.specs.declared.Got.{Got}
-use Rattle.line_gather.specs.declared.Got.TheVariants as G
-use Rattle.line_gather.specs.declared.Numbering.{Numbering}
-use Rattle.line_gather.specs.declared.Numbering.TheVariants as N
 
 unfoldable pub piece_of : List ℕ → ℕ → List ℕ
 piece_of s from = take (run_to line_end (drop from s)) (drop from s)
@@ -31,16 +28,12 @@ piece_of s from = take (run_to line_end (drop from s)) (drop from s)
 unfoldable pub counted : ℕ → ℕ → ℕ
 counted L n = min n (L + 1)
 
--- a line that ends in this block, with the place where the next one starts; or one that goes on in the next block
+-- a line that ends in this block has a place where the next one starts; one that goes on in the next block has none
 unfoldable pub got_of : ℕ → ℕ → List ℕ → ℕ → Got
-got_of L have s from =
-    cond (ltb (end_from line_end s from) (length s))
-    (G.Line (counted L (have + length (piece_of s from))) (end_from line_end s from + 1))
-    (G.More (counted L (have + length (piece_of s from))))
-
-unfoldable pub count_got : Got → ℕ
-count_got (G.Line n next) = n
-count_got (G.More n) = n
+got_of L have s from = record {
+  count = counted L (have + length (piece_of s from));
+  next = cond (ltb (end_from line_end s from) (length s)) (Some (end_from line_end s from + 1)) None;
+}
 
 -- the bytes before `have` stay, the piece goes after them as far as there is room, and the bytes after it stay
 abbrev pub gathered_in : List ℕ → ℕ → List ℕ → ℕ → List ℕ
@@ -59,5 +52,5 @@ unfoldable pub is_last : ℕ → Bool
 is_last have = cond (eqb have 0) false true
 
 -- "a line number (1 to 999999)", "At the millionth line it prints `full` and stops"
-unfoldable pub number_after : ℕ → Numbering
-number_after n = cond (ltb n last_line) (N.Line (n + 1)) N.Full
+unfoldable pub number_after : ℕ → Option ℕ
+number_after n = cond (ltb n last_line) (Some (n + 1)) None

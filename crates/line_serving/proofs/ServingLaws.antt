@@ -12,11 +12,10 @@ use Rattle.text_fields.specs.Fields.{line_end, end_from}
 use Rattle.text_fields.proofs.FieldLaws.{end_from_from}
 use Rattle.line_gather.specs.Gather.{piece_of, counted, gathered_in, got_of, Gathered, number_after}
 use Rattle.line_gather.specs.declared.Got.{Got}
-use Rattle.line_gather.specs.declared.Got.TheVariants as G
-use Rattle.line_gather.specs.declared.Numbering.{Numbering}
-use Rattle.line_gather.specs.declared.Numbering.TheVariants as N
+use Rattle.std.proofs.Common.{Option, Some, None, Result}
 use Rattle.line_session.specs.declared.Session.{Session}
 use Rattle.line_entry.specs.declared.Entered.{Entered}
+use Rattle.rules.specs.declared.Refusal.{Refusal}
 use Rattle.rules.specs.Tables.{Tables}
 use Rattle.line_entry.specs.Lines.{Entry, Enters, held_line, reply_of}
 use Rattle.line_entry.proofs.LineLaws.{entry_within}
@@ -24,15 +23,16 @@ use Rattle.line_serving.specs.declared.Served.{Served}
 use Rattle.line_serving.specs.Serving.{full_text, answered_turn, went_on, stopped, brought, numbered, turn_of, Serves}
 
 -- what was entered is what was answered
-pub serves_entered : (x : List ℕ) (n next : ℕ) {e : Entry} {r : Entered} {q : Served} {st : Tables} {rs out : List ℕ}
-    → Enters e r st rs out → q.next ≡ next → q.have ≡ 0 → q.lines ≡ n → q.session ≡ r.session
-    → q.bytes ≡ r.bytes → q.going ≡ true → Serves (answered_turn x n next e) q x st rs out
+pub serves_entered : (x : List ℕ) (n next : ℕ) {e : Entry} {r : Result Entered Refusal} {q : Served} {st : Tables}
+    {rs out : List ℕ}
+    → Enters e r st rs out → q.next ≡ next → q.have ≡ 0 → q.lines ≡ n → q.session ≡ e.session
+    → q.bytes ≡ e.bytes → q.going ≡ true → Serves (answered_turn x n next e) q x st rs out
 serves_entered x n next e a b c d f g = record {
   next = a;
   have = b;
   lines = c;
-  session = d ∙ e.session;
-  bytes = f ∙ e.bytes;
+  session = d;
+  bytes = f;
   going = g;
   line = refl;
   after = e.after;
@@ -41,7 +41,7 @@ serves_entered x n next e a b c d f g = record {
 }
 
 module _ (b : List ℕ) (from : ℕ) (x : List ℕ) (have lines : ℕ) (session : Session) (st : Tables) (rs out : List ℕ) where
-  pub turn_full : number_after lines ≡ N.Full
+  pub turn_full : number_after lines ≡ None
       → turn_of b from x have lines session st rs out ≡ stopped b from x have lines session st rs out
   unfolding turn_of numbered
   turn_full e = rw e
@@ -55,28 +55,30 @@ module _ (b : List ℕ) (from : ℕ) (x : List ℕ) (have lines : ℕ) (session 
       E : ℕ
       E = end_from line_end b from
 
-      ends : (n k : ℕ) (t : Bool) → ltb E (length b) ≡ t → let got = cond t (G.Line k (E + 1)) (G.More k) in
-          let r = (brought b from x have lines session st rs out n got).next in (from < r) × (r ≤ length b)
+      ends : (n k : ℕ) (t : Bool) → ltb E (length b) ≡ t
+          → let r = (brought b from x have lines session st rs out n k (cond t (Some (E + 1)) None)).next in
+          (from < r) × (r ≤ length b)
       ends n k true e = (omega (arith, end_from_from line_end b from), omega (arith, ltb-true E (length b) e))
       ends n k false e = (h, omega arith)
 
-      go : (m : Numbering) → let r = (numbered b from x have lines session st rs out m).next in
+      go : (m : Option ℕ) → let r = (numbered b from x have lines session st rs out m).next in
           (from < r) × (r ≤ length b)
-      go (N.Line n) = ends n (counted (length x) (have + length (piece_of b from))) (ltb E (length b)) refl
-      go N.Full = (h, omega arith)
+      go (Some n) = ends n (counted (length x) (have + length (piece_of b from))) (ltb E (length b)) refl
+      go None = (h, omega arith)
 
   -- what a turn writes fits into what was lent for it
   turn_within : (turn_of b from x have lines session st rs out).bytes ≤ length out
   unfolding turn_of numbered brought
   turn_within = go (number_after lines)
     where
-      brings : (n : ℕ) (r : Got) → (brought b from x have lines session st rs out n r).bytes ≤ length out
-      brings n (G.Line k next) = entry_within (held_line (gathered_in x have b from) k) n session st rs out
-      brings n (G.More k) = omega arith
+      brings : (n k : ℕ) (next : Option ℕ)
+          → (brought b from x have lines session st rs out n k next).bytes ≤ length out
+      brings n k (Some next) = entry_within (held_line (gathered_in x have b from) k) n session st rs out
+      brings n k None = omega arith
 
-      go : (m : Numbering) → (numbered b from x have lines session st rs out m).bytes ≤ length out
-      go (N.Line n) = brings n (got_of (length x) have b from)
-      go N.Full = fitting_most full_text out
+      go : (m : Option ℕ) → (numbered b from x have lines session st rs out m).bytes ≤ length out
+      go (Some n) = let got = got_of (length x) have b from in brings n got.count got.next
+      go None = fitting_most full_text out
 
   module _ {q : Served} {y : List ℕ} {st' : Tables} {rs' out' : List ℕ}
       (s : Serves (turn_of b from x have lines session st rs out) q y st' rs' out') where
@@ -86,22 +88,31 @@ module _ (b : List ℕ) (from : ℕ) (x : List ℕ) (have lines : ℕ) (session 
     pub served_within : q.bytes ≤ length out
     served_within = rw s.bytes turn_within
 
-  module _ (n : ℕ) (e : number_after lines ≡ N.Line n) where
-    pub turn_more : (k : ℕ) → got_of (length x) have b from ≡ G.More k
+  module _ (n : ℕ) (e : number_after lines ≡ Some n) where
+    pub turn_more : (k : ℕ) → got_of (length x) have b from ≡ record { count = k; next = None }
         → turn_of b from x have lines session st rs out ≡ went_on b from x have lines session st rs out k
     unfolding turn_of numbered brought
     turn_more k g = rw (e, g)
 
-    pub turn_line : (k next : ℕ) → got_of (length x) have b from ≡ G.Line k next → let y = gathered_in x have b from in
+    pub turn_line : (k next : ℕ) → got_of (length x) have b from ≡ record { count = k; next = Some next }
+        → let y = gathered_in x have b from in
         turn_of b from x have lines session st rs out ≡ answered_turn y n next (reply_of y k n session st rs out)
     unfolding turn_of numbered brought
     turn_line k next g = rw (e, g)
 
-    pub serves_line : {y : List ℕ} {got : Got} {k next : ℕ} {q : Served} {st' : Tables} {rs' out' : List ℕ}
-        → Gathered x have b from y got → got ≡ G.Line k next
-        → Serves (answered_turn y n next (reply_of y k n session st rs out)) q y st' rs' out'
-        → Serves (turn_of b from x have lines session st rs out) q y st' rs' out'
-    serves_line {y} {got} {k} {next} {q} {st'} {rs'} {out'} g h s =
-        rw (turn_line k next (sym g.answer ∙ h))
-        (subst (λ (z : List ℕ). Serves (answered_turn z n next (reply_of z k n session st rs out)) q y st' rs' out')
-        g.bytes s)
+    module _ {y : List ℕ} {got : Got} (g : Gathered x have b from y got) where
+      brings : {o : Option ℕ} → got.next ≡ o → got_of (length x) have b from ≡ record { count = got.count; next = o }
+      brings {o} h = sym g.answer ∙ rw h
+
+      pub turn_gathered : got.next ≡ None
+          → turn_of b from x have lines session st rs out ≡ went_on b from x have lines session st rs out got.count
+      turn_gathered h = turn_more got.count (brings h)
+
+      pub serves_line : {next : ℕ} {q : Served} {st' : Tables} {rs' out' : List ℕ} → got.next ≡ Some next
+          → Serves (answered_turn y n next (reply_of y got.count n session st rs out)) q y st' rs' out'
+          → Serves (turn_of b from x have lines session st rs out) q y st' rs' out'
+      serves_line {next} {q} {st'} {rs'} {out'} h s =
+          rw (turn_line got.count next (brings h))
+          (subst
+          (λ (z : List ℕ). Serves (answered_turn z n next (reply_of z got.count n session st rs out)) q y st' rs' out')
+          g.bytes s)

@@ -21,9 +21,7 @@ use Rattle.text_buffers.proofs.BufferLaws.{over_is, fitting_room}
 use Rattle.text_fields.specs.Fields.{line_end, run_to, end_from}
 use Rattle.answer_text.specs.AnswerText.{answer_text}
 use Rattle.line_gather.specs.Gather.{piece_of, counted, gathered_in, got_of, Holds, is_last, number_after}
-use Rattle.line_gather.specs.declared.Got.TheVariants as G
-use Rattle.line_gather.specs.declared.Numbering.{Numbering}
-use Rattle.line_gather.specs.declared.Numbering.TheVariants as N
+use Rattle.std.proofs.Common.{Option, Some, None}
 use Rattle.line_gather.proofs.Theorems.{holds_length, holds_none, holds_piece, holds_whole, holds_long}
 use Rattle.line_session.specs.declared.Session.{Session}
 use Rattle.line_session.specs.Sessions.{Deed}
@@ -132,17 +130,17 @@ begun_none d = ap (begun_as d) (append-nil d.begun)
 begun_more : (d : Desk) (s t : List ℕ) → begun_with (begun_with d s) t ≡ begun_with d (s ++ t)
 begun_more d s t = ap (begun_as d) (append_assoc d.begun s t)
 
-fed_full : (d : Desk) (b : ℕ) → d.going ≡ true → number_after d.lines ≡ N.Full → fed d b ≡ full d
+fed_full : (d : Desk) (b : ℕ) → d.going ≡ true → number_after d.lines ≡ None → fed d b ≡ full d
 unfolding fed fed_in
 fed_full d b g e = rw (g, e)
 
 module _ (n : ℕ) where
-  fed_byte : (d : Desk) (b : ℕ) → d.going ≡ true → number_after d.lines ≡ N.Line n → eqb b line_end ≡ false
+  fed_byte : (d : Desk) (b : ℕ) → d.going ≡ true → number_after d.lines ≡ Some n → eqb b line_end ≡ false
       → fed d b ≡ begun_with d (b ∷ [])
   unfolding fed fed_in
   fed_byte d b g e f = rw (g, e, f)
 
-  fed_end : (d : Desk) (b : ℕ) → d.going ≡ true → number_after d.lines ≡ N.Line n → eqb b line_end ≡ true
+  fed_end : (d : Desk) (b : ℕ) → d.going ≡ true → number_after d.lines ≡ Some n → eqb b line_end ≡ true
       → fed d b ≡ answered d n
   unfolding fed fed_in
   fed_end d b g e f = rw (g, e, f)
@@ -152,7 +150,7 @@ module _ (n : ℕ) where
   Answers d u k = feed d u ≡ feed (answered (begun_with d (take k u)) n) (drop (suc k) u)
 
   -- a line that ends is answered
-  line_fed : (u : List ℕ) (d : Desk) → d.going ≡ true → number_after d.lines ≡ N.Line n
+  line_fed : (u : List ℕ) (d : Desk) → d.going ≡ true → number_after d.lines ≡ Some n
       → run_to line_end u < length u → Answers d u (run_to line_end u)
   unfolding feed run_to
   line_fed [] d g e h = absurd (omega arith)
@@ -170,7 +168,7 @@ module _ (n : ℕ) where
           ∙ ap (λ (x : Desk). feed (answered x n) (drop (suc r) u)) (begun_more d (b ∷ []) (take r u))
 
   -- one that does not goes on
-  more_fed : (u : List ℕ) (d : Desk) → d.going ≡ true → number_after d.lines ≡ N.Line n
+  more_fed : (u : List ℕ) (d : Desk) → d.going ≡ true → number_after d.lines ≡ Some n
       → length u ≤ run_to line_end u → feed d u ≡ begun_with d u
   unfolding feed run_to
   more_fed [] d g e h = sym (begun_none d)
@@ -186,12 +184,13 @@ module _ (n : ℕ) where
 -- ---- turn by turn
 
 got_more : (L have : ℕ) (b : List ℕ) (from : ℕ) → length b ≤ end_from line_end b from
-    → got_of L have b from ≡ G.More (counted L (have + length (piece_of b from)))
+    → got_of L have b from ≡ record { count = counted L (have + length (piece_of b from)); next = None }
 unfolding got_of
 got_more L have b from l = rw (le-ltb (end_from line_end b from) (length b) l)
 
 got_line : (L have : ℕ) (b : List ℕ) (from : ℕ) → end_from line_end b from < length b
-    → got_of L have b from ≡ G.Line (counted L (have + length (piece_of b from))) (end_from line_end b from + 1)
+    → got_of L have b from
+    ≡ record { count = counted L (have + length (piece_of b from)); next = Some (end_from line_end b from + 1) }
 unfolding got_of
 got_line L have b from l = rw (lt-ltb (end_from line_end b from) (length b) l)
 
@@ -200,7 +199,7 @@ module _ (d : Desk) (b : List ℕ) (from : ℕ) (x : List ℕ) (have : ℕ) (out
   T = turn_of b from x have d.lines d.session d.after d.report out
 
   module _ (r : longest_answer ≤ length out) (h : from < length b) (g : d.going ≡ true) (w : Buffered d x have) where
-    takes_full : number_after d.lines ≡ N.Full → Advances d b from T (full d)
+    takes_full : number_after d.lines ≡ None → Advances d b from T (full d)
     takes_full e = subst (λ (t : Turn). Advances d b from t (full d)) (sym turn) (record {
       bytes = bytes;
       said = ap (λ (t : List ℕ). d.said ++ t) (sym text);
@@ -230,7 +229,7 @@ module _ (d : Desk) (b : List ℕ) (from : ℕ) (x : List ℕ) (have : ℕ) (out
         bytes : feed d (drop from b) ≡ feed (full d) (drop (length b) b)
         bytes = first ∙ sym (fed_stopped (full d) (drop (length b) b) refl)
 
-    module _ (n : ℕ) (e : number_after d.lines ≡ N.Line n) where
+    module _ (n : ℕ) (e : number_after d.lines ≡ Some n) where
       -- what the buffer holds then, and how many bytes of the line are counted
       abbrev held : List ℕ
       held = gathered_in x have b from
@@ -323,11 +322,11 @@ module _ (d : Desk) (b : List ℕ) (from : ℕ) (x : List ℕ) (have : ℕ) (out
     pub serve_takes : (d' : Desk) × Advances d b from T d'
     serve_takes = go (number_after d.lines) refl (dec_lt (end_from line_end b from) (length b))
       where
-        go : (m : Numbering) → number_after d.lines ≡ m → Dec (end_from line_end b from < length b)
+        go : (m : Option ℕ) → number_after d.lines ≡ m → Dec (end_from line_end b from < length b)
             → (d' : Desk) × Advances d b from T d'
-        go N.Full e l = (full d, takes_full e)
-        go (N.Line n) e (yes l) = (answered (begun_with d (piece_of b from)) n, takes_line n e l)
-        go (N.Line n) e (no l) = (begun_with d (piece_of b from), takes_more n e (omega arith))
+        go None e l = (full d, takes_full e)
+        go (Some n) e (yes l) = (answered (begun_with d (piece_of b from)) n, takes_line n e l)
+        go (Some n) e (no l) = (begun_with d (piece_of b from), takes_more n e (omega arith))
 
 -- the program's values before the first byte, with any line buffer
 pub opening_buffered : (x : List ℕ) → length x ≡ longest_line → Buffered opening x 0
@@ -374,7 +373,7 @@ fed_bounded d b h = go d.going refl (ltb d.lines last_line) refl
     line g l false = record { last = h.last; going_on = h.going_on; at_all = h.at_all }
 
     go : (g : Bool) → d.going ≡ g → (l : Bool) → ltb d.lines last_line ≡ l
-        → Bounded (cond g (fed_in d b (cond l (N.Line (d.lines + 1)) N.Full)) d)
+        → Bounded (cond g (fed_in d b (cond l (Some (d.lines + 1)) None)) d)
     go true g true l = line g (ltb-true d.lines last_line l) (eqb b line_end)
     go true g false l = record {
       last = h.last;

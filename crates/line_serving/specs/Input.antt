@@ -13,13 +13,11 @@
 -- A desk has no line buffer: a line is gathered whole there, however long it is.
 -- Assumes nothing.
 use Rattle.std.specs.Prelude.{ℕ, ◌≡◌, List, [], ◌∷◌, ◌++◌, Bool, true, false, cond, eqb}
-use Rattle.std.specs.Prelude.{length, take, drop, replicate}
+use Rattle.std.specs.Prelude.{length, take, drop, replicate, Option, Some, None}
 use Rattle.words.specs.Words.{longest_line, longest_answer, of_lines, line_report}
 use Rattle.rules.specs.Tables.{Tables, tables}
 use Rattle.text_fields.specs.Fields.{line_end}
 use Rattle.line_gather.specs.Gather.{is_last, number_after, Holds}
-use Rattle.line_gather.specs.declared.Numbering.{Numbering}
-use Rattle.line_gather.specs.declared.Numbering.TheVariants as N
 use Rattle.line_session.specs.declared.Session.{Session}
 use Rattle.line_session.specs.declared.Session.TheVariants.{Unopened}
 use Rattle.line_entry.specs.Lines.{Entry, entry_of}
@@ -91,9 +89,9 @@ full d = record {
   said = d.said ++ full_text;
 }
 
-unfoldable pub fed_in : Desk → ℕ → Numbering → Desk
-fed_in d b (N.Line n) = cond (eqb b line_end) (answered d n) (begun_with d (b ∷ []))
-fed_in d b N.Full = full d
+unfoldable pub fed_in : Desk → ℕ → Option ℕ → Desk
+fed_in d b (Some n) = cond (eqb b line_end) (answered d n) (begun_with d (b ∷ []))
+fed_in d b None = full d
 
 unfoldable pub fed : Desk → ℕ → Desk
 fed d b = cond d.going (fed_in d b (number_after d.lines)) d

@@ -8,15 +8,11 @@
 --   Serves ..  a call answered and left these
 -- Input.antt says the same byte by byte, and Theorems.antt that they agree.
 -- Assumes nothing.
-use Rattle.std.specs.Prelude.{ℕ, ◌≡◌, List, [], ◌∷◌, Bool, true, false, length}
+use Rattle.std.specs.Prelude.{ℕ, ◌≡◌, List, [], ◌∷◌, Bool, true, false, length, Option, Some, None}
 use Rattle.words.specs.Lists.{over}
 use Rattle.rules.specs.Tables.{Tables}
 use Rattle.text_buffers.specs.Buffers.{fitting}
 use Rattle.line_gather.specs.Gather.{gathered_in, got_of, number_after}
-use Rattle.line_gather.specs.declared.Got.{Got}
-use Rattle.line_gather.specs.declared.Got.TheVariants as G
-use Rattle.line_gather.specs.declared.Numbering.{Numbering}
-use Rattle.line_gather.specs.declared.Numbering.TheVariants as N
 use Rattle.line_session.specs.declared.Session.{Session}
 use Rattle.line_entry.specs.Lines.{Entry, reply_of}
 use Rattle.line_serving.specs.declared.Served.{Served}
@@ -82,15 +78,15 @@ module _ (b : List ℕ) (from : ℕ) (x : List ℕ) (have lines : ℕ) (session 
     out = over (fitting full_text out) out;
   }
 
-  -- what the block brings to line n
-  unfoldable pub brought : ℕ → Got → Turn
-  brought n (G.Line k next) =
+  -- what the block brings to line n: k bytes, and where it ends there, the place where the next one starts
+  unfoldable pub brought : ℕ → ℕ → Option ℕ → Turn
+  brought n k (Some next) =
       answered_turn (gathered_in x have b from) n next (reply_of (gathered_in x have b from) k n session s rs out)
-  brought n (G.More k) = went_on k
+  brought n k None = went_on k
 
-  unfoldable pub numbered : Numbering → Turn
-  numbered (N.Line n) = brought n (got_of (length x) have b from)
-  numbered N.Full = stopped
+  unfoldable pub numbered : Option ℕ → Turn
+  numbered (Some n) = let got = got_of (length x) have b from in brought n got.count got.next
+  numbered None = stopped
 
   unfoldable pub turn_of : Turn
   turn_of = numbered (number_after lines)

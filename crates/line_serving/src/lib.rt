@@ -1,16 +1,18 @@
 // An input that comes in blocks, answered line by line.
 #![tactic(auto)]
 
+ghost use Rattle.std.specs.Prelude.{◌≡◌, true, length};
 ghost use Rattle.rules.specs.Tables.{tables as tables_of};
 ghost use Rattle.line_serving.specs.Serving.{turn_of, answered_turn, Serves};
 ghost use Rattle.line_entry.specs.Lines.{reply_of};
 
-use line_gather::{Got, Numbering};
+use line_entry::Entered;
+use line_gather::Got;
 use line_session::Session;
 
 // What there is after a piece of a block: where the next piece starts, how many bytes of the line that has begun were
 // counted, how many lines were answered, the session value, how many bytes were written for an answer, and whether more
-// lines are taken.
+// lines are taken: no other field hangs on that one, so it is a flag and no `Option`.
 #[derive(Clone, Copy)]
 pub struct Served {
     pub next: usize,
@@ -40,14 +42,36 @@ fn answer(
         result line.now (tables_of tasks.new promises.new) report.new
         out.new }
 {
-    let entered = line_entry::reply(line, have, number, session, tasks, promises, report, out);
-    let after = entered.session;
+    let entered = line_entry::reply(
+        line, have, number, session, tasks, promises, report, out,
+    ).unwrap_or(Entered { session, bytes: 0 });
     Served {
         next,
         have: 0,
         lines: number,
-        session: after,
+        session: entered.session,
         bytes: entered.bytes,
+        going: true,
+    }
+}
+
+// Where the block ended, with so many bytes of the line that has begun.
+fn at_end(block: &[u8], have: usize, lines: u32, session: Session) -> Served
+    ensures { result ≡ record {
+      next = length block.now;
+      have = have;
+      lines = lines;
+      session = session;
+      bytes = 0;
+      going = true;
+    } }
+{
+    Served {
+        next: block.len(),
+        have,
+        lines,
+        session,
+        bytes: 0,
         going: true,
     }
 }
@@ -71,34 +95,19 @@ pub fn serve(
         result line.new (tables_of tasks.new promises.new) report.new
         out.new }
 {
-    let after = line_gather::number_after(lines);
-    match after {
-        Numbering::Line(n) => {
-            let got = line_gather::gather(line, have, block, from);
-            match got {
-                Got::Line(k, next) => {
-                    answer(line, k, n, next, session, tasks, promises, report, out)
-                }
-                Got::More(k) => Served {
-                    next: block.len(),
-                    have: k,
-                    lines,
-                    session,
-                    bytes: 0,
-                    going: true,
-                },
-            }
-        }
-        Numbering::Full => {
-            let bytes = text_writers::put_bytes(out, b"full\n");
-            Served {
-                next: block.len(),
-                have,
-                lines,
-                session,
-                bytes,
-                going: false,
-            }
-        }
+    let Some(number) = line_gather::number_after(lines) else {
+        let bytes = text_writers::put_bytes(out, b"full\n");
+        return Served {
+            bytes,
+            going: false,
+            ..at_end(block, have, lines, session)
+        };
+    };
+    let Got { count, next } = line_gather::gather(line, have, block, from);
+    match next {
+        Some(next) => answer(
+            line, count, number, next, session, tasks, promises, report, out,
+        ),
+        None => at_end(block, count, lines, session),
     }
 }

@@ -24,6 +24,8 @@ use Rattle.rules.proofs.RefusalLaws.{first_past}
 use Rattle.step_kinds.specs.declared.Kind.{Kind}
 use Rattle.text_forms.specs.declared.LineForm.{LineForm}
 use Rattle.text_forms.specs.declared.LineForm.TheVariants as F
+use Rattle.text_forms.specs.declared.BadLine.{BadLine}
+use Rattle.std.specs.Prelude.{Result, Ok, Err}
 use Rattle.line_session.specs.declared.Session.{Session}
 use Rattle.line_session.specs.declared.Session.TheVariants.{Unopened, Open}
 use Rattle.line_session.specs.declared.Done.{Done}
@@ -89,17 +91,18 @@ does_opened T P s h k e f a b =
     })
 
 -- a line before a session is opened writes no report
-unopened_words : (f : LineForm) (s : Tables) → (unopened_deed f s).words ≡ []
+unopened_words : (f : Result LineForm BadLine) (s : Tables) → (unopened_deed f s).words ≡ []
 unfolding unopened_deed open_deed
-unopened_words (F.Open T P) s = go (eqb (fresh_refusal of_lines T P) 0)
+unopened_words (Ok (F.Open T P)) s = go (eqb (fresh_refusal of_lines T P) 0)
   where
     go : (b : Bool) → (cond b (opened T P s) (refused_by (Refused (fresh_refusal of_lines T P)) Unopened s)).words ≡ []
     go true = refl
     go false = refl
-unopened_words (F.Step k t p n) s = refl
-unopened_words (F.Bad c) s = refl
+unopened_words (Ok (F.Step k t p n)) s = refl
+unopened_words (Err c) s = refl
 
-pub does_unopened : (f : LineForm) (vs : List ℕ) (s : Tables) (rs : List ℕ) (n : ℕ) {x : Done} {s' : Tables}
+pub does_unopened : (f : Result LineForm BadLine) (vs : List ℕ) (s : Tables) (rs : List ℕ) (n : ℕ) {x : Done}
+    {s' : Tables}
     → Does (unopened_deed f s) [] x s' [] → Does (deed_of f vs Unopened s n) rs x s' rs
 unfolding deed_of
 does_unopened f vs s rs n d = record {
@@ -116,17 +119,18 @@ pub in_session_open : (T P : ℕ) → in_session (Open T P) ≡ true
 unfolding in_session
 in_session_open T P e = let s = sizes_in_bounds_true of_lines T P e in (s.tasks, s.promises)
 
-pub does_open : (f : LineForm) (vs : List ℕ) (s : Tables) (rs : List ℕ) (n T P : ℕ) {x : Done} {a : Answer}
-    {s' : Tables} {rs' : List ℕ} → Gives (part_outcome f vs n T P s) rs a s' rs' → x.answer ≡ a
+pub does_open : (f : Result LineForm BadLine) (vs : List ℕ) (s : Tables) (rs : List ℕ) (n T P : ℕ) {x : Done}
+    {a : Answer} {s' : Tables} {rs' : List ℕ} → Gives (part_outcome f vs n T P s) rs a s' rs' → x.answer ≡ a
     → x.session ≡ Open T P → Does (deed_of f vs (Open T P) s n) rs x s' rs'
 unfolding deed_of
 does_open f vs s rs n T P d e g = record { answer = e ∙ d.answer; session = g; after = d.after; report = d.report }
 
 -- a line does what it does with its own list, however the list was lent
-pub deed_list : (f : LineForm) (vs vs' : List ℕ) (session : Session) (s : Tables) (n : ℕ)
-    → ((k : Kind) (t p c : ℕ) → f ≡ F.Step k t p c → vs ≡ vs') → deed_of f vs session s n ≡ deed_of f vs' session s n
+pub deed_list : (f : Result LineForm BadLine) (vs vs' : List ℕ) (session : Session) (s : Tables) (n : ℕ)
+    → ((k : Kind) (t p c : ℕ) → f ≡ Ok (F.Step k t p c) → vs ≡ vs')
+    → deed_of f vs session s n ≡ deed_of f vs' session s n
 unfolding deed_of open_outcome
 deed_list f vs vs' Unopened s n h = refl
-deed_list (F.Open T P) vs vs' (Open T' P') s n h = refl
-deed_list (F.Step k t p c) vs vs' (Open T P) s n h = rw (h k t p c refl)
-deed_list (F.Bad c) vs vs' (Open T P) s n h = refl
+deed_list (Ok (F.Open T P)) vs vs' (Open T' P') s n h = refl
+deed_list (Ok (F.Step k t p c)) vs vs' (Open T P) s n h = rw (h k t p c refl)
+deed_list (Err c) vs vs' (Open T P) s n h = refl

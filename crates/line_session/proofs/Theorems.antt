@@ -22,6 +22,9 @@ use Rattle.rules.proofs.Promises.{a_number_below_100_refuses, a_refusal_changes_
 use Rattle.steps.specs.Named.{step_by}
 use Rattle.text_forms.specs.declared.LineForm.{LineForm}
 use Rattle.text_forms.specs.declared.LineForm.TheVariants as F
+use Rattle.text_forms.specs.declared.BadLine.{BadLine}
+use Rattle.text_forms.specs.Judging.{at_column}
+use Rattle.std.specs.Prelude.{Result, Ok, Err}
 use Rattle.line_session.specs.declared.Session.{Session}
 use Rattle.line_session.specs.declared.Session.TheVariants.{Unopened, Open}
 use Rattle.line_session.specs.declared.Done.{Done}
@@ -46,16 +49,16 @@ stepped_same T P s o e w = record {
 }
 
 -- A REFUSED LINE ONLY GETS ITS ANSWER LINE: it changes no session value, no table and no report
-pub a_refused_line_only_answers : (f : LineForm) (vs : List ℕ) (session : Session) (s : Tables) (n : ℕ)
+pub a_refused_line_only_answers : (f : Result LineForm BadLine) (vs : List ℕ) (session : Session) (s : Tables) (n : ℕ)
     → Refusal (deed_of f vs session s n).answer → OnlyAnswers (deed_of f vs session s n) session s
 unfolding deed_of unopened_deed open_deed open_outcome
-a_refused_line_only_answers (F.Open T P) vs Unopened s n r = go (eqb (fresh_refusal of_lines T P) 0) r
+a_refused_line_only_answers (Ok (F.Open T P)) vs Unopened s n r = go (eqb (fresh_refusal of_lines T P) 0) r
   where
     go : (b : Bool) → Refusal (opened_by T P s b).answer → OnlyAnswers (opened_by T P s b) Unopened s
     go true r = elim r [ ]
     go false r = refused_unopened (Refused (fresh_refusal of_lines T P)) s
-a_refused_line_only_answers (F.Step k t p c) vs Unopened s n r = refused_unopened (Refused 15) s
-a_refused_line_only_answers (F.Bad c) vs Unopened s n r = refused_unopened (refused_at_column c) s
+a_refused_line_only_answers (Ok (F.Step k t p c)) vs Unopened s n r = refused_unopened (Refused 15) s
+a_refused_line_only_answers (Err c) vs Unopened s n r = refused_unopened (refused_at_column c.column) s
 a_refused_line_only_answers f vs (Open T P) s n r = in_session_lem f r
   where
     part : Tables
@@ -67,28 +70,28 @@ a_refused_line_only_answers f vs (Open T P) s n r = in_session_lem f r
         let u = a_refusal_changes_nothing of_lines n part x r in
         stepped_same T P s (step of_lines n part x) u.0 u.1
 
-    in_session_lem : (f : LineForm) → let o = open_outcome f vs n part in
+    in_session_lem : (f : Result LineForm BadLine) → let o = open_outcome f vs n part in
         Refusal o.answer → OnlyAnswers (stepped T P (in_part T P s o)) (Open T P) s
-    in_session_lem (F.Open T' P') r = stepped_same T P s (outcome (Refused 15) part []) refl refl
-    in_session_lem (F.Step k t p c) r = taken (step_by k t p vs) r
-    in_session_lem (F.Bad c) r = stepped_same T P s (outcome (refused_at_column c) part []) refl refl
+    in_session_lem (Ok (F.Open T' P')) r = stepped_same T P s (outcome (Refused 15) part []) refl refl
+    in_session_lem (Ok (F.Step k t p c)) r = taken (step_by k t p vs) r
+    in_session_lem (Err c) r = stepped_same T P s (outcome (refused_at_column c.column) part []) refl refl
 
 -- no line but an accepted open changes the session value
-pub only_open_opens : (f : LineForm) (vs : List ℕ) (session : Session) (s : Tables) (n : ℕ)
+pub only_open_opens : (f : Result LineForm BadLine) (vs : List ℕ) (session : Session) (s : Tables) (n : ℕ)
     → ((deed_of f vs session s n).answer ≡ Opened → ⊥) → (deed_of f vs session s n).session ≡ session
 unfolding deed_of unopened_deed open_deed
-only_open_opens (F.Open T P) vs Unopened s n h = go (eqb (fresh_refusal of_lines T P) 0) h
+only_open_opens (Ok (F.Open T P)) vs Unopened s n h = go (eqb (fresh_refusal of_lines T P) 0) h
   where
     go : (b : Bool) → ((opened_by T P s b).answer ≡ Opened → ⊥) → (opened_by T P s b).session ≡ Unopened
     go true h = absurd (h refl)
     go false h = refl
-only_open_opens (F.Step k t p c) vs Unopened s n h = refl
-only_open_opens (F.Bad c) vs Unopened s n h = refl
+only_open_opens (Ok (F.Step k t p c)) vs Unopened s n h = refl
+only_open_opens (Err c) vs Unopened s n h = refl
 only_open_opens f vs (Open T P) s n h = refl
 
 -- A LINE THAT GOES BAD ONLY GETS ITS COLUMN
 pub a_bad_line_only_gets_its_column : (column : ℕ) (vs : List ℕ) (session : Session) (s : Tables) (n : ℕ)
-    → deed_of (F.Bad column) vs session s n ≡ refused_by (refused_at_column column) session s
+    → deed_of (Err (at_column column)) vs session s n ≡ refused_by (refused_at_column column) session s
 unfolding deed_of unopened_deed open_outcome
 a_bad_line_only_gets_its_column column vs Unopened s n = refl
 a_bad_line_only_gets_its_column column vs (Open T P) s n =
@@ -103,30 +106,31 @@ step_not_14 n s x e =
     true_is_not_false (sym q ∙ ap not (eq-eqb (number_of (step of_lines n s x).answer) 14 e))
 
 -- ONLY A LINE THAT GOES BAD IS REFUSED BY 14
-pub only_a_bad_line_gets_14 : (f : LineForm) (vs : List ℕ) (session : Session) (s : Tables) (n : ℕ)
-    → number_of (deed_of f vs session s n).answer ≡ 14 → (column : ℕ) × (f ≡ F.Bad column)
+pub only_a_bad_line_gets_14 : (f : Result LineForm BadLine) (vs : List ℕ) (session : Session) (s : Tables) (n : ℕ)
+    → number_of (deed_of f vs session s n).answer ≡ 14 → (column : ℕ) × (f ≡ Err (at_column column))
 unfolding deed_of unopened_deed open_deed open_outcome laid
-only_a_bad_line_gets_14 (F.Open T P) vs Unopened s n e = go (eqb (fresh_refusal of_lines T P) 0) e
+only_a_bad_line_gets_14 (Ok (F.Open T P)) vs Unopened s n e = go (eqb (fresh_refusal of_lines T P) 0) e
   where
-    go : (b : Bool) → number_of (opened_by T P s b).answer ≡ 14 → (column : ℕ) × (F.Open T P ≡ F.Bad column)
+    go : (b : Bool) → number_of (opened_by T P s b).answer ≡ 14
+        → (column : ℕ) × (◌≡◌ {A = Result LineForm BadLine} (Ok (F.Open T P)) (Err (at_column column)))
     go true e = absurd (omega arith)
     go false e = absurd (omega (arith, fresh_refusal_most T P))
-only_a_bad_line_gets_14 (F.Step k t p c) vs Unopened s n e = absurd (omega arith)
-only_a_bad_line_gets_14 (F.Bad c) vs Unopened s n e = (c, refl)
-only_a_bad_line_gets_14 (F.Open T' P') vs (Open T P) s n e = absurd (omega arith)
-only_a_bad_line_gets_14 (F.Step k t p c) vs (Open T P) s n e =
+only_a_bad_line_gets_14 (Ok (F.Step k t p c)) vs Unopened s n e = absurd (omega arith)
+only_a_bad_line_gets_14 (Err c) vs Unopened s n e = (c.column, refl)
+only_a_bad_line_gets_14 (Ok (F.Open T' P')) vs (Open T P) s n e = absurd (omega arith)
+only_a_bad_line_gets_14 (Ok (F.Step k t p c)) vs (Open T P) s n e =
     step_not_14 n (part_of T P s) (step_by k t p vs) e
-only_a_bad_line_gets_14 (F.Bad c) vs (Open T P) s n e = (c, refl)
+only_a_bad_line_gets_14 (Err c) vs (Open T P) s n e = (c.column, refl)
 
 -- ---- 01: "Where an answer is an enum, a definition gives this paper's number and values for each of its cases"
 
 -- WHATEVER A LINE DOES, ITS ANSWER'S NUMBER AND VALUES TELL THE ANSWER BACK, and it refuses exactly if the number is
 -- below 100
-pub a_line's_answer_is_told : (f : LineForm) (vs : List ℕ) (session : Session) (s : Tables) (n : ℕ)
+pub a_line's_answer_is_told : (f : Result LineForm BadLine) (vs : List ℕ) (session : Session) (s : Tables) (n : ℕ)
     → let a = (deed_of f vs session s n).answer in
     (answer_of (number_of a) (values_of a) ≡ a) × ((laid a).refuses ≡ ltb (number_of a) 100)
 unfolding deed_of unopened_deed open_deed open_outcome laid answer_of refusal_of
-a_line's_answer_is_told (F.Open T P) vs Unopened s n = go (eqb (fresh_refusal of_lines T P) 0)
+a_line's_answer_is_told (Ok (F.Open T P)) vs Unopened s n = go (eqb (fresh_refusal of_lines T P) 0)
   where
     below : ltb (fresh_refusal of_lines T P) 100 ≡ true
     below = lt-ltb (fresh_refusal of_lines T P) 100 (omega (arith, fresh_refusal_most T P))
@@ -135,11 +139,12 @@ a_line's_answer_is_told (F.Open T P) vs Unopened s n = go (eqb (fresh_refusal of
         (answer_of (number_of a) (values_of a) ≡ a) × ((laid a).refuses ≡ ltb (number_of a) 100)
     go true = (refl, refl)
     go false = rw below (refl, refl)
-a_line's_answer_is_told (F.Step k t p c) vs Unopened s n = (refl, refl)
-a_line's_answer_is_told (F.Bad c) vs Unopened s n = (refl, refl)
-a_line's_answer_is_told (F.Open T' P') vs (Open T P) s n = (refl, refl)
-a_line's_answer_is_told (F.Step k t p c) vs (Open T P) s n = step_told of_lines n (part_of T P s) (step_by k t p vs)
-a_line's_answer_is_told (F.Bad c) vs (Open T P) s n = (refl, refl)
+a_line's_answer_is_told (Ok (F.Step k t p c)) vs Unopened s n = (refl, refl)
+a_line's_answer_is_told (Err c) vs Unopened s n = (refl, refl)
+a_line's_answer_is_told (Ok (F.Open T' P')) vs (Open T P) s n = (refl, refl)
+a_line's_answer_is_told (Ok (F.Step k t p c)) vs (Open T P) s n =
+    step_told of_lines n (part_of T P s) (step_by k t p vs)
+a_line's_answer_is_told (Err c) vs (Open T P) s n = (refl, refl)
 
 -- 01, "How much each contract must say": any two outcomes that the contract of `act` allows coincide
 pub act_unique : {d : Deed} {rs : List ℕ} {p q : Done} {s s' : Tables} {rs₁ rs₂ : List ℕ} → Does d rs p s rs₁

@@ -4,7 +4,7 @@
 --   Deed                                        what a line does: its answer, the session value, the tables and the
 --                                               report words
 --   refused_at_column column                    the answer to a line that goes bad at the column
---   unopened_deed f s                           what a line of the form f does before a session is opened
+--   unopened_deed f s                           what a line does before a session is opened
 --   open_outcome f vs n s                       its outcome in an open session, on the tables s
 --   in_part T P s o, part_outcome f vs n T P s  an outcome on the first T and P words of the tables s
 --   deed_of f vs session s n                    what it does
@@ -23,6 +23,8 @@ use Rattle.rules.specs.declared.Answer.{Answer}
 use Rattle.rules.specs.declared.Answer.TheVariants.{Opened, Refused, RefusedAt}
 use Rattle.text_forms.specs.declared.LineForm.{LineForm}
 use Rattle.text_forms.specs.declared.LineForm.TheVariants as F
+use Rattle.text_forms.specs.declared.BadLine.{BadLine}
+use Rattle.std.specs.Prelude.{Result, Ok, Err}
 use Rattle.line_session.specs.declared.Session.{Session}
 use Rattle.line_session.specs.declared.Session.TheVariants.{Unopened, Open}
 use Rattle.line_session.specs.declared.Done.{Done}
@@ -69,28 +71,28 @@ open_deed s T P =
     (opened T P s)
     (refused_by (Refused (fresh_refusal of_lines T P)) Unopened s)
 
-unfoldable pub unopened_deed : LineForm → Tables → Deed
-unopened_deed (F.Open T P) s = open_deed s T P
-unopened_deed (F.Step k t p n) s = refused_by (Refused 15) Unopened s
-unopened_deed (F.Bad column) s = refused_by (refused_at_column column) Unopened s
+unfoldable pub unopened_deed : Result LineForm BadLine → Tables → Deed
+unopened_deed (Ok (F.Open T P)) s = open_deed s T P
+unopened_deed (Ok (F.Step k t p n)) s = refused_by (Refused 15) Unopened s
+unopened_deed (Err bad) s = refused_by (refused_at_column bad.column) Unopened s
 
 -- ---- in an open session
 
 -- n is the report's length, vs are the entries of a step's list. "or a second open": 15. "14 comes before 15, both
 -- before the step's own."
-unfoldable pub open_outcome : LineForm → List ℕ → ℕ → Tables → Outcome
-open_outcome (F.Open T P) vs n s = outcome (Refused 15) s []
-open_outcome (F.Step k t p c) vs n s = step of_lines n s (step_by k t p vs)
-open_outcome (F.Bad column) vs n s = outcome (refused_at_column column) s []
+unfoldable pub open_outcome : Result LineForm BadLine → List ℕ → ℕ → Tables → Outcome
+open_outcome (Ok (F.Open T P)) vs n s = outcome (Refused 15) s []
+open_outcome (Ok (F.Step k t p c)) vs n s = step of_lines n s (step_by k t p vs)
+open_outcome (Err bad) vs n s = outcome (refused_at_column bad.column) s []
 
 -- the same on the first T and P words of the tables s
-abbrev pub part_outcome : LineForm → List ℕ → ℕ → ℕ → ℕ → Tables → Outcome
+abbrev pub part_outcome : Result LineForm BadLine → List ℕ → ℕ → ℕ → ℕ → Tables → Outcome
 part_outcome f vs n T P s = in_part T P s (open_outcome f vs n (part_of T P s))
 
 -- ---- what a line does
 
 -- n is the report's length
-unfoldable pub deed_of : LineForm → List ℕ → Session → Tables → ℕ → Deed
+unfoldable pub deed_of : Result LineForm BadLine → List ℕ → Session → Tables → ℕ → Deed
 deed_of f vs Unopened s n = unopened_deed f s
 deed_of f vs (Open T P) s n = stepped T P (part_outcome f vs n T P s)
 

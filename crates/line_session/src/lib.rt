@@ -9,13 +9,14 @@ ghost use Rattle.text_forms.specs.Judging.{entry_count};
 ghost use Rattle.line_session.specs.Sessions.{in_session, refused_at_column, unopened_deed, open_deed, open_outcome};
 ghost use Rattle.line_session.specs.Sessions.{part_outcome, deed_of, Does};
 
-use rules::Answer;
-use steps::step;
-use table_fresh::{fresh, fresh_refusal};
-use text_forms::LineForm;
+use rules::{Answer, Refusal};
+use steps::{Lent, step_by};
+use table_fresh::{check_sizes, fresh};
+use text_forms::{BadLine, LineForm};
 use words::sizes_in_bounds;
 
-// The session value: unopened, or the numbers of tasks and promises of the session.
+// The session value: unopened, or the numbers of tasks and promises of the session. No `Option`: `None` would not say
+// what it is that is not there.
 #[derive(Clone, Copy)]
 pub enum Session {
     Unopened,
@@ -40,18 +41,18 @@ pub fn in_session(session: Session) -> bool
 }
 
 // The answer to a line that goes bad at the column.
-fn refused_at_column(column: u16) -> Answer
-    ensures { result ≡ refused_at_column column }
+fn refused_at_column(bad: BadLine) -> Answer
+    ensures { result ≡ refused_at_column bad.column }
 {
     Answer::RefusedAt {
-        number: 14,
-        place: column,
+        number: Refusal::BadLine.number(),
+        place: bad.column,
     }
 }
 
 // A line in an open session, on the tables of the session.
 fn in_open(
-    form: LineForm,
+    form: Result<LineForm, BadLine>,
     list: &[u16],
     tasks: &mut [u16],
     promises: &mut [u16],
@@ -63,9 +64,16 @@ fn in_open(
         result (tables_of tasks.new promises.new) report.new }
 {
     match form {
-        LineForm::Open(_, _) => Answer::Refused(15),
-        LineForm::Step(kind, t, p, n) => step(tasks, promises, report, kind, t, p, &list[0..n]),
-        LineForm::Bad(column) => refused_at_column(column),
+        Ok(LineForm::Open(_, _)) => Refusal::OutOfTurn.into(),
+        Ok(LineForm::Step(kind, t, p, n)) => {
+            let mut lent = Lent {
+                tasks,
+                promises,
+                report,
+            };
+            lent.take(step_by(kind, t, p, &list[..n]))
+        }
+        Err(bad) => refused_at_column(bad),
     }
 }
 
@@ -77,14 +85,13 @@ fn open_session(t: u16, p: u16, tasks: &mut [u16], promises: &mut [u16]) -> Done
 {
     let i = t as usize;
     let j = p as usize;
-    let n = fresh_refusal(i, j);
-    if n != 0 {
+    if let Err(refusal) = check_sizes(i, j) {
         return Done {
-            answer: Answer::Refused(n),
+            answer: refusal.into(),
             session: Session::Unopened,
         };
     }
-    fresh(&mut tasks[0..i], &mut promises[0..j]);
+    let _ = fresh(&mut tasks[0..i], &mut promises[0..j]);
     Done {
         answer: Answer::Opened,
         session: Session::Open(t, p),
@@ -102,21 +109,21 @@ fn refused_unopened(answer: Answer) -> Done
 }
 
 // A line before a session is opened.
-fn unopened(form: LineForm, tasks: &mut [u16], promises: &mut [u16]) -> Done
+fn unopened(form: Result<LineForm, BadLine>, tasks: &mut [u16], promises: &mut [u16]) -> Done
     requires { (length tasks.old ≡ of_lines.most_tasks) × (length promises.old ≡ of_lines.most_promises) }
     ensures { Does (unopened_deed form (tables_of tasks.old promises.old)) []
         result (tables_of tasks.new promises.new) [] }
 {
     match form {
-        LineForm::Open(t, p) => open_session(t, p, tasks, promises),
-        LineForm::Step(_, _, _, _) => refused_unopened(Answer::Refused(15)),
-        LineForm::Bad(column) => refused_unopened(refused_at_column(column)),
+        Ok(LineForm::Open(t, p)) => open_session(t, p, tasks, promises),
+        Ok(LineForm::Step(_, _, _, _)) => refused_unopened(Refusal::OutOfTurn.into()),
+        Err(bad) => refused_unopened(refused_at_column(bad)),
     }
 }
 
 // A line in the session of `t` tasks and `p` promises, which are the first words of the lent tables.
 fn in_part(
-    form: LineForm,
+    form: Result<LineForm, BadLine>,
     list: &[u16],
     t: usize,
     p: usize,
@@ -134,7 +141,7 @@ fn in_part(
 
 // What a line does.
 pub fn act(
-    form: LineForm,
+    form: Result<LineForm, BadLine>,
     list: &[u16],
     session: Session,
     tasks: &mut [u16],

@@ -8,6 +8,6 @@ pub returns-then-n-lt-LINES : goal.returns-then-n-lt-LINES
 unfolding number_after
 returns-then-n-lt-LINES c = rw (lt-ltb _ _ c.if-n-lt-LINES.true)
 
-pub returns : goal.returns
+pub returns-else-n-lt-LINES : goal.returns-else-n-lt-LINES
 unfolding number_after
-returns c = rw (le-ltb _ _ c.if-n-lt-LINES.false)
+returns-else-n-lt-LINES c = rw (le-ltb _ _ c.if-n-lt-LINES.false)
