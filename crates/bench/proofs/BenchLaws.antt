@@ -1,66 +1,31 @@
--- Laws of specs/Carrying.antt and specs/Running.antt: known bytes that are read and written one after another, what
--- waits in the output array, the lines of a block, and the run from read to read. Assumes nothing.
-use Rattle.std.proofs.Common.{◌≡◌, ℕ, suc, ◌+◌, ◌-◌, ◌^◌, ◌<◌, ◌≤◌, Bool, true, false, not, ◌&&◌, ltb, List, [], ◌∷◌}
-use Rattle.std.proofs.Common.{◌++◌, length, take, drop, replicate, sym, refl, ap, ◌∙◌, subst, append_assoc, append-nil}
-use Rattle.std.proofs.Common.{arith, length-append, length-drop, drop_of_length-le, length-take-le, ltb-false, ltb-true}
-use Rattle.std.proofs.Common.{Option, Some, None}
-use Rattle.std.proofs.lemmas.List.{take_rest}
-use Rattle.std.proofs.Math.Seq.{take-add}
+-- Laws of specs/Carrying.antt and specs/Running.antt: known bytes that are written one after another, what waits in the
+-- output array, the lines of a block, and the run from read to read. Assumes nothing.
+use Rattle.std.proofs.Common.{◌≡◌, ℕ, suc, ◌+◌, ◌-◌, ◌^◌, ◌<◌, ◌≤◌, Bool, true, false, List, [], ◌∷◌}
+use Rattle.std.proofs.Common.{◌++◌, length, take, drop, sym, refl, ap, ◌∙◌, subst, append_assoc, append-nil}
+use Rattle.std.proofs.Common.{arith, length-append, length-drop, drop_of_length-le, length-take-le, Option}
+use Rattle.std.proofs.KnownBytes.{Appends-nil, Appends-trans, Consumes-nil, Consumes-trans}
 use Rattle.std.specs.Io.KnownBytes.{Appends, Consumes}
-use native.Mathlib.Nat.{mod-add-mod, sub-zero}
-use borrow.Rule.Slice.PartMut.{put_mid}
-use Rattle.words.specs.Words.{longest_answer, longest_line, line_report}
+use native.Mathlib.Nat.{mod-add-mod}
+use Rattle.std.proofs.Common.{Result, Ok, Err, OnOk, is_ok, is_err, not, ◌&&◌}
 use Rattle.words.proofs.BoolLaws.{clash}
-use Rattle.rules.specs.Tables.{Tables}
+use borrow.Rule.Slice.PartMut.{put_mid}
+use Rattle.words.specs.Words.{longest_answer}
+use Rattle.rules.specs.Tables.{Tables, tables}
 use Rattle.text_buffers.proofs.BufferLaws.{rest_lent}
 use Rattle.line_gather.specs.Gather.{is_last}
-use Rattle.line_session.specs.declared.Session.TheVariants.{Unopened}
 use Rattle.line_serving.specs.declared.Served.{Served}
 use Rattle.line_serving.specs.Serving.{Turn, turn_of, Serves}
-use Rattle.line_serving.specs.Input.{Desk, opening, feed, ended, Advances, zero_tables}
+use Rattle.line_serving.specs.Input.{Desk, opening, feed, ended, Advances}
 use Rattle.line_serving.proofs.Theorems.{serve_takes, feed_none, fed_stopped, in_pieces, opening_buffered}
 use Rattle.line_serving.proofs.Theorems.{last_is_last}
+use Rattle.line_serving.proofs.ServingLaws.{served_on, served_within}
 use Rattle.bench.specs.declared.State.{State}
-use Rattle.bench.specs.declared.Ran.{Ran}
-use Rattle.bench.specs.Carrying.{SameLine, wrapped, PutOut, Waiting, At, Fed}
-use Rattle.bench.specs.Running.{none, more, RanTo, most_reads}
-
--- ---- known bytes
-
-pub appends_none : (u : Option (List ℕ)) → Appends u u []
-appends_none None = tt
-appends_none (Some s) = sym (append-nil s)
-
-pub appends_then : (u v w : Option (List ℕ)) (s t : List ℕ) → Appends u v s → Appends v w t → Appends u w (s ++ t)
-appends_then None v w s t h k = tt
-appends_then (Some a) None w s t h k = absurd h
-appends_then (Some a) (Some b) None s t h k = k
-appends_then (Some a) (Some b) (Some c) s t h k = k ∙ ap (λ (z : List ℕ). z ++ t) h ∙ append_assoc a s t
-
-pub consumes_none : (u : Option (List ℕ)) → Consumes u u []
-consumes_none None = tt
-consumes_none (Some s) = refl
-
-pub consumes_then : (u v w : Option (List ℕ)) (s t : List ℕ) → Consumes u v s → Consumes v w t
-    → Consumes u w (s ++ t)
-consumes_then None v w s t h k = tt
-consumes_then (Some a) None w s t h k = absurd h
-consumes_then (Some a) (Some b) None s t h k = k
-consumes_then (Some a) (Some b) (Some c) s t h k = h ∙ ap (λ (z : List ℕ). s ++ z) k ∙ sym (append_assoc s t c)
-
--- what a write took of the rest follows what was taken before it
-pub appends_on : (u v w : Option (List ℕ)) (s : List ℕ) (at n : ℕ) → Appends u v (take at s)
-    → Appends v w (take n (take (length s - at) (drop at s))) → Appends u w (take (at + n) s)
-appends_on u v w s at n h k =
-    let z : Appends v w (take n (drop at s)) = rw (take_rest s at) at k in
-    rw (take-add at n s) (appends_then u v w (take at s) (take n (drop at s)) h z)
+use Rattle.bench.specs.declared.Reading.{Reading}
+use Rattle.bench.specs.declared.Reading.TheVariants.{Open, Ended, Failed}
+use Rattle.bench.specs.Carrying.{wrapped, Waiting, At, Fed}
+use Rattle.bench.specs.Running.{none, more, desk_after, RanTo, Runs, Opens, has_ended}
 
 -- ---- what waits in the output array
-
--- what is written after what an array holds already, into the rest of it, which was lent, ends within the array
-pub added_within : (x : List ℕ) (used bytes : ℕ) → bytes ≤ length (take (length x - used) (drop used x))
-    → used ≤ length x → used + bytes ≤ length x
-added_within x used bytes h l = omega (arith, h, ap length (rest_lent x used), length-drop used x)
 
 -- the rest, given back with p in it
 put_back : (x : List ℕ) (n : ℕ) (p : List ℕ) → put_mid n (length x - n) x p ≡ take n x ++ p
@@ -75,27 +40,22 @@ take_past (b ∷ s) t k =
     let e : suc (length s) + k ≡ suc (length s + k) = omega arith in
     rw e (ap (λ (r : List ℕ). b ∷ r) (take_past s t k))
 
-module _ (said o : List ℕ) (s : State) (held holds : Option (List ℕ)) (w : Waiting said s o held holds) where
-  -- the same bytes wait
-  pub waits_same : (r : State) → r.used ≡ s.used → r.put ≡ s.put → (r.open ≡ true → s.open ≡ true)
-      → Waiting said r o held holds
-  waits_same r e f u = record { gone = w.gone; rest = rw e w.rest; count = f ∙ w.count; taken = λ g. w.taken (u g) }
-
-  -- what waited was put out, and an output that is still open took it
-  pub waits_put : (r : State) (now : Option (List ℕ)) → s.used ≤ length o → PutOut s r
-      → (r.open ≡ true → Appends holds now (take s.used o)) → Waiting said r o held now
-  waits_put r now l p t = record {
+module _ (said : List ℕ) (s : State) (held holds : Option (List ℕ)) (w : Waiting said s held holds)
+    (l : s.used ≤ length s.out) where
+  -- what waited was put out, and the output took it
+  waits_put : (r : State) (now : Option (List ℕ)) → r.used ≡ 0 → r.put ≡ wrapped (s.put + s.used)
+      → Appends holds now (take s.used s.out) → Waiting said r held now
+  waits_put r now p q t = record {
     gone = said;
-    rest = rw p.2 (sym (append-nil said));
-    count = p.3 ∙ sum;
-    taken = λ g.
-        rw w.rest (appends_then held holds now w.gone (take s.used o) (w.taken (p.4 g)) (t g));
+    rest = rw p (sym (append-nil said));
+    count = q ∙ sum;
+    taken = rw w.rest (Appends-trans held holds now w.gone (take s.used s.out) w.taken t);
   }
     where
       size : length said ≡ length w.gone + s.used
       size =
-          ap length w.rest ∙ length-append w.gone (take s.used o)
-          ∙ ap (λ (n : ℕ). length w.gone + n) (length-take-le s.used o l)
+          ap length w.rest ∙ length-append w.gone (take s.used s.out)
+          ∙ ap (λ (n : ℕ). length w.gone + n) (length-take-le s.used s.out l)
 
       sum : wrapped (s.put + s.used) ≡ wrapped (length said)
       sum =
@@ -103,145 +63,146 @@ module _ (said o : List ℕ) (s : State) (held holds : Option (List ℕ)) (w : W
           ∙ ap wrapped (sym size)
 
   -- what was written after it waits too
-  waits_more : (u y : List ℕ) (k : ℕ) (r : State) → s.used ≤ length o → y ≡ take s.used o ++ u
-      → r.used ≡ s.used + k → r.put ≡ s.put → (r.open ≡ true → s.open ≡ true)
-      → Waiting (said ++ take k u) r y held holds
-  waits_more u y k r l e f g v = record {
-    gone = w.gone;
-    rest = rest;
-    count = g ∙ w.count;
-    taken = λ i. w.taken (v i);
-  }
+  waits_more : (u : List ℕ) (k : ℕ) (r : State) → r.out ≡ take s.used s.out ++ u → r.used ≡ s.used + k
+      → r.put ≡ s.put → Waiting (said ++ take k u) r held holds
+  waits_more u k r e f g = record { gone = w.gone; rest = rest; count = g ∙ w.count; taken = w.taken }
     where
       first : List ℕ
-      first = take s.used o
+      first = take s.used s.out
 
       seam : take (s.used + k) (first ++ u) ≡ first ++ take k u
       seam =
-          ap (λ (i : ℕ). take (i + k) (first ++ u)) (sym (length-take-le s.used o l)) ∙ take_past first u k
+          ap (λ (i : ℕ). take (i + k) (first ++ u)) (sym (length-take-le s.used s.out l)) ∙ take_past first u k
 
-      now_there : first ++ take k u ≡ take r.used y
-      now_there = sym seam ∙ ap (take (s.used + k)) (sym e) ∙ ap (λ (i : ℕ). take i y) (sym f)
+      now_there : first ++ take k u ≡ take r.used r.out
+      now_there = sym seam ∙ ap (take (s.used + k)) (sym e) ∙ ap (λ (i : ℕ). take i r.out) (sym f)
 
-      rest : said ++ take k u ≡ w.gone ++ take r.used y
+      rest : said ++ take k u ≡ w.gone ++ take r.used r.out
       rest =
           ap (λ (z : List ℕ). z ++ take k u) w.rest ∙ append_assoc w.gone first (take k u)
           ∙ ap (λ (z : List ℕ). w.gone ++ z) now_there
 
--- ---- the same place
+-- the same line, tables and report: all that a desk knows of but the bytes that wait
+abbrev pub SameLine : State → State → Type 0
+SameLine s r =
+    (r.line ≡ s.line) × (r.have ≡ s.have) × (r.lines ≡ s.lines) × (r.session ≡ s.session) × (r.tasks ≡ s.tasks)
+    × (r.promises ≡ s.promises) × (r.report ≡ s.report) × (r.going ≡ s.going)
 
--- another state where the desk's part is the same
-pub at_moved : (d : Desk) (s r : State) (x : List ℕ) (st : Tables) (rs o : List ℕ) (held holds now : Option (List ℕ))
-    → SameLine s r → Waiting d.said r o held now → At d s x st rs o held holds → At d r x st rs o held now
-at_moved d s r x st rs o held holds now e w h = record {
-  buffer = rw e.0 h.buffer;
-  lines = h.lines ∙ sym e.1;
-  session = h.session ∙ sym e.2;
-  after = h.after;
-  report = h.report;
-  going = h.going ∙ sym e.3;
+at_line : (d : Desk) (s r : State) (held holds now : Option (List ℕ)) → SameLine s r → Waiting d.said r held now
+    → At d s held holds → At d r held now
+at_line d s r held holds now e w h = record {
+  buffer = rw (e.0, e.1) h.buffer;
+  lines = h.lines ∙ sym e.2;
+  session = h.session ∙ sym e.3;
+  after = rw (e.4, e.5) h.after;
+  report = h.report ∙ sym e.6;
+  going = h.going ∙ sym e.7;
   waits = w;
 }
 
+-- where the same bytes wait too, the program is where it was
+pub at_same : (d : Desk) (s r : State) (held holds : Option (List ℕ)) → SameLine s r
+    → (r.out ≡ s.out) × (r.used ≡ s.used) × (r.put ≡ s.put) → At d s held holds → At d r held holds
+at_same d s r held holds e f h =
+    let w = h.waits in
+    at_line d s r held holds holds e
+    (record { gone = w.gone; rest = rw (f.0, f.1) w.rest; count = f.2 ∙ w.count; taken = w.taken }) h
+
 -- putting out what waits leaves the program where it is
-at_put_out : (d : Desk) (s r : State) (x : List ℕ) (st : Tables) (rs o : List ℕ) (held holds now : Option (List ℕ))
-    → s.used ≤ length o → PutOut s r → (r.open ≡ true → Appends holds now (take s.used o))
-    → At d s x st rs o held holds → At d r x st rs o held now
-at_put_out d s r x st rs o held holds now l p t h =
-    at_moved d s r x st rs o held holds now p.1 (waits_put d.said o s held holds h.waits r now l p t) h
+pub at_put_out : (d : Desk) (s r : State) (held holds now : Option (List ℕ)) → s.used ≤ length s.out
+    → SameLine s r → r.used ≡ 0 → r.put ≡ wrapped (s.put + s.used) → Appends holds now (take s.used s.out)
+    → At d s held holds → At d r held now
+at_put_out d s r held holds now l e p q t h =
+    at_line d s r held holds now e (waits_put d.said s held holds h.waits l r now p q t) h
 
 -- ---- the lines of a block
 
--- nothing is taken yet at the start of the block
-pub fed_none : (d : Desk) (b : List ℕ) (s : State) (x : List ℕ) (st : Tables) (rs o : List ℕ)
-    (held holds : Option (List ℕ)) → s.from ≡ 0 → At d s x st rs o held holds → Fed d b 0 s x st rs o held holds
-fed_none d b s x st rs o held holds e h = record { desk = d; bytes = ap (λ (i : ℕ). feed d (drop i b)) (sym e); at = h }
-
 -- one line more, after those that were taken
-pub fed_more : {d : Desk} {b : List ℕ} {i : ℕ} {s r : State} {x x' : List ℕ} {st st' : Tables} {rs rs' o o' : List ℕ}
-    {held holds now : Option (List ℕ)} (f : Fed d b i s x st rs o held holds)
-    → Fed f.desk b s.from r x' st' rs' o' held now → Fed d b i r x' st' rs' o' held now
+pub fed_more : {d : Desk} {b : List ℕ} {i j k : ℕ} {s r : State} {held holds now : Option (List ℕ)}
+    (f : Fed d b i j s held holds) → Fed f.desk b j k r held now → Fed d b i k r held now
 fed_more f t = record { desk = t.desk; bytes = f.bytes ∙ t.bytes; at = t.at }
 
+-- the turn of the line at `from` in the state s, which is lent the rest of the output array
+abbrev pub turn_at : List ℕ → ℕ → State → List ℕ → Turn
+turn_at b from s out =
+    turn_of b from s.line s.have s.lines s.session (tables s.tasks s.promises) s.report out
+
 -- what was served into the rest of the output array is what the state carries on
-abbrev pub CarriesOn : State → Served → State → Type 0
-CarriesOn s q r =
-    (r.from ≡ q.next) × (r.have ≡ q.have) × (r.lines ≡ q.lines) × (r.session ≡ q.session)
-    × (r.used ≡ s.used + q.bytes) × (r.put ≡ s.put) × (r.going ≡ q.going) × (r.open ≡ true → s.open ≡ true)
+abbrev pub CarriesOn : State → Served → List ℕ → State → Type 0
+CarriesOn s q u r =
+    (r.have ≡ q.have) × (r.lines ≡ q.lines) × (r.session ≡ q.session) × (r.going ≡ q.going)
+    × (r.out ≡ put_mid s.used (length s.out - s.used) s.out u) × (r.used ≡ s.used + q.bytes) × (r.put ≡ s.put)
 
-module _ (d : Desk) (b : List ℕ) (s r : State) (x : List ℕ) (st : Tables) (rs o : List ℕ)
-    (held holds : Option (List ℕ)) where
-  -- the turn of the line
-  abbrev T : List ℕ → Turn
-  T out = turn_of b s.from x s.have s.lines s.session st rs out
-
-  pub fed_line : {from : ℕ} {q : Served} {x' : List ℕ} {st' : Tables} {rs' u : List ℕ} → s.from ≡ from
-      → Serves (T (take (length o - s.used) (drop s.used o))) q x' st' rs' u → CarriesOn s q r
-      → s.used + longest_answer ≤ length o → s.from < length b → s.going ≡ true
-      → At d s x st rs o held holds
-      → Fed d b from r x' st' rs' (put_mid s.used (length o - s.used) o u) held holds
-  fed_line {from} {q} {x'} {st'} {rs'} {u} i v e m l g h = rw (← i) (record {
+module _ (d : Desk) (b : List ℕ) (from : ℕ) (s r : State) (held holds : Option (List ℕ)) where
+  pub fed_line : {q : Served} {u : List ℕ}
+      → Serves (turn_at b from s (take (length s.out - s.used) (drop s.used s.out))) q r.line
+      (tables r.tasks r.promises) r.report u
+      → CarriesOn s q u r → s.used + longest_answer ≤ length s.out → from < length b → d.going ≡ true
+      → At d s held holds → Fed d b from q.next r held holds
+  fed_line {q} {u} v e m l g h = record {
     desk = t.0;
-    bytes = k.bytes ∙ ap (λ (j : ℕ). feed t.0 (drop j b)) (sym (e.0 ∙ w.next));
+    bytes = k.bytes ∙ ap (λ (j : ℕ). feed t.0 (drop j b)) (sym w.next);
     at = record {
-      buffer = rw (w.line, e.1, w.have) k.buffer;
-      lines = k.lines ∙ sym (e.2 ∙ w.lines);
-      session = k.session ∙ sym (e.3 ∙ w.session);
+      buffer = rw (w.line, e.0, w.have) k.buffer;
+      lines = k.lines ∙ sym (e.1 ∙ w.lines);
+      session = k.session ∙ sym (e.2 ∙ w.session);
       after = k.after ∙ sym w.after;
       report = k.report ∙ sym w.report;
-      going = k.going ∙ sym (e.6 ∙ w.going);
+      going = k.going ∙ sym (e.3 ∙ w.going);
       waits = rw k.said waits;
     };
-  })
+  }
     where
       rest : List ℕ
-      rest = drop s.used o
+      rest = drop s.used s.out
 
-      w : Serves (T rest) q x' st' rs' u
-      w = subst (λ (z : List ℕ). Serves (T z) q x' st' rs' u) (rest_lent o s.used) v
+      w : Serves (turn_at b from s rest) q r.line (tables r.tasks r.promises) r.report u
+      w =
+          subst (λ (z : List ℕ). Serves (turn_at b from s z) q r.line (tables r.tasks r.promises) r.report u)
+          (rest_lent s.out s.used) v
 
       turn : Turn
-      turn = turn_of b s.from x s.have d.lines d.session d.after d.report rest
+      turn = turn_of b from s.line s.have d.lines d.session d.after d.report rest
 
-      t : (d' : Desk) × Advances d b s.from turn d'
-      t =
-          serve_takes d b s.from x s.have rest (omega (arith, length-drop s.used o)) l (h.going ∙ g)
-          h.buffer
+      t : (d' : Desk) × Advances d b from turn d'
+      t = serve_takes d b from s.line s.have rest (omega (arith, length-drop s.used s.out)) l g h.buffer
 
-      k : Advances d b s.from (T rest) t.0
+      k : Advances d b from (turn_at b from s rest) t.0
       k = rw (← h.lines, ← h.session, ← h.after, ← h.report) t.1
 
-      back : List ℕ
-      back = put_mid s.used (length o - s.used) o u
-
-      waits : Waiting (d.said ++ take (T rest).bytes (T rest).out) r back held holds
+      waits : Waiting (d.said ++ take (turn_at b from s rest).bytes (turn_at b from s rest).out) r held holds
       waits =
-          waits_more d.said o s held holds h.waits (T rest).out back (T rest).bytes r (omega arith)
-          (put_back o s.used u ∙ ap (λ (y : List ℕ). take s.used o ++ y) w.answer)
-          (e.4 ∙ ap (λ (j : ℕ). s.used + j) w.bytes) e.5 e.7
+          waits_more d.said s held holds h.waits (omega arith) (turn_at b from s rest).out
+          (turn_at b from s rest).bytes r
+          (e.4 ∙ put_back s.out s.used u ∙ ap (λ (y : List ℕ). take s.used s.out ++ y) w.answer)
+          (e.5 ∙ ap (λ (j : ℕ). s.used + j) w.bytes) e.6
 
-module _ (d : Desk) (b : List ℕ) (r : State) (x : List ℕ) (st : Tables) (rs o : List ℕ)
-    (held holds : Option (List ℕ)) (f : Fed d b 0 r x st rs o held holds) where
+-- where it ends, in the block and in the output array
+pub line_ends : (b : List ℕ) (from : ℕ) (s : State) {q : Served} {x : List ℕ} {st : Tables} {rs u : List ℕ}
+    → Serves (turn_at b from s (take (length s.out - s.used) (drop s.used s.out))) q x st rs u
+    → from < length b → s.used ≤ length s.out
+    → (from < q.next) × (q.next ≤ length b) × (s.used + q.bytes ≤ length s.out)
+line_ends b from s v l m =
+    let rest : List ℕ = take (length s.out - s.used) (drop s.used s.out) in
+    let lent = tables s.tasks s.promises in
+    let on = served_on b from s.line s.have s.lines s.session lent s.report rest v l in
+    let within = served_within b from s.line s.have s.lines s.session lent s.report rest v in
+    (on.0, on.1, omega (arith, within, ap length (rest_lent s.out s.used), length-drop s.used s.out))
+
+module _ (d : Desk) (b : List ℕ) (next : ℕ) (r : State) (held holds : Option (List ℕ))
+    (f : Fed d b 0 next r held holds) where
   -- A BLOCK THAT WAS TAKEN WHOLE: the program is where the desk is after the block's bytes
-  pub fed_all : r.from ≡ length b → At (feed d b) r x st rs o held holds
+  pub fed_all : length b ≤ next → At (feed d b) r held holds
   unfolding feed
-  fed_all e = subst (λ (y : Desk). At y r x st rs o held holds) (sym (f.bytes ∙ ap (feed f.desk) none_left)) f.at
+  fed_all e = subst (λ (y : Desk). At y r held holds) (sym (f.bytes ∙ ap (feed f.desk) none_left)) f.at
     where
-      none_left : drop r.from b ≡ []
-      none_left = let z : length b ≤ r.from = omega arith in drop_of_length-le b z
+      none_left : drop next b ≡ []
+      none_left = drop_of_length-le b e
 
   -- and where no more lines are taken, what is left of it does nothing
-  pub fed_full : r.going ≡ false → At (feed d b) r x st rs o held holds
+  pub fed_full : r.going ≡ false → At (feed d b) r held holds
   fed_full e =
-      subst (λ (y : Desk). At y r x st rs o held holds)
-      (sym (f.bytes ∙ fed_stopped f.desk (drop r.from b) (f.at.going ∙ e)))
-      f.at
-
--- of two flags one is down: the other is up
-pub down_first : (a b : Bool) → not (a && b) ≡ true → b ≡ true → a ≡ false
-down_first true true e f = clash cc
-down_first true false e f = clash cc
-down_first false b e f = refl
+      subst (λ (y : Desk). At y r held holds) (sym (f.bytes ∙ fed_stopped f.desk (drop next b) (f.at.going ∙ e))) f.at
 
 -- ---- the input's end
 
@@ -253,114 +214,100 @@ none_fed : (d : Desk) → is_last (length d.begun) ≡ false → ended d ≡ d
 unfolding ended
 none_fed d e = rw e
 
-module _ (d : Desk) (s : State) (x : List ℕ) (st : Tables) (rs o : List ℕ) (held holds : Option (List ℕ))
-    (h : At d s x st rs o held holds) where
+module _ (d : Desk) (s : State) (held holds : Option (List ℕ)) (h : At d s held holds) where
   -- a last line without LF is served as if it had one
-  pub ended_line : (r : State) (x' : List ℕ) (st' : Tables) (rs' o' : List ℕ) (now : Option (List ℕ))
-      → is_last s.have ≡ true → At (feed d (10 ∷ [])) r x' st' rs' o' held now
-      → At (ended d) r x' st' rs' o' held now
-  ended_line r x' st' rs' o' now e a =
-      subst (λ (y : Desk). At y r x' st' rs' o' held now)
-      (sym (last_fed d (sym (last_is_last d x s.have h.buffer) ∙ e)))
+  pub ended_line : (r : State) (now : Option (List ℕ)) → is_last s.have ≡ true → At (feed d (10 ∷ [])) r held now
+      → At (ended d) r held now
+  ended_line r now e a =
+      subst (λ (y : Desk). At y r held now)
+      (sym (last_fed d (sym (last_is_last d s.line s.have h.buffer) ∙ e)))
       a
 
   -- where no line has begun, nothing is left to do
-  pub ended_none : is_last s.have ≡ false → At (ended d) s x st rs o held holds
+  pub ended_none : is_last s.have ≡ false → At (ended d) s held holds
   ended_none e =
-      subst (λ (y : Desk). At y s x st rs o held holds)
-      (sym (none_fed d (sym (last_is_last d x s.have h.buffer) ∙ e)))
+      subst (λ (y : Desk). At y s held holds)
+      (sym (none_fed d (sym (last_is_last d s.line s.have h.buffer) ∙ e)))
       h
 
 -- ---- from read to read
 
--- THE PROGRAM STARTS WHERE THE DESK OPENS, with any line buffer of the right length, with empty tables, with any
--- output array and with any output
-opening_at : (s : State) (x o : List ℕ) (held : Option (List ℕ)) → length x ≡ longest_line → s.have ≡ 0 → s.lines ≡ 0
-    → s.session ≡ Unopened → s.used ≡ 0 → s.put ≡ 0 → s.going ≡ true
-    → At opening s x zero_tables (replicate line_report 0) o held held
-opening_at s x o held l e₁ e₂ e₃ e₄ e₅ e₆ = record {
-  buffer = rw e₁ (opening_buffered x l);
-  lines = sym e₂;
-  session = sym e₃;
-  after = refl;
-  report = refl;
-  going = sym e₆;
-  waits = record { gone = []; rest = rw e₄; count = e₅; taken = λ g. appends_none held };
+-- THE PROGRAM STARTS WHERE THE DESK OPENS, with any output
+opening_at : (s : State) (held : Option (List ℕ)) → Opens s → At opening s held held
+opening_at s held e = record {
+  buffer = rw e.have (opening_buffered s.line e.line);
+  lines = sym e.lines;
+  session = sym e.session;
+  after = sym e.after;
+  report = sym e.report;
+  going = sym e.going;
+  waits = record { gone = []; rest = rw e.used; count = e.put; taken = Appends-nil held };
 }
 
-pub reached_start : (r : Ran) (x o : List ℕ) (had held : Option (List ℕ)) → length x ≡ longest_line
-    → (r.state.have ≡ 0) × (r.state.lines ≡ 0) × (r.state.session ≡ Unopened) × (r.state.used ≡ 0)
-    × (r.state.put ≡ 0) × (r.state.going ≡ true) × (r.state.open ≡ true) × (r.reads ≡ 0) × (r.ended ≡ false)
-    × (r.failed ≡ false)
-    → RanTo r x zero_tables (replicate line_report 0) o had had held held
-reached_start r x o had held l e = record {
+-- while the input is open, the desk is the one after its bytes
+desk_open : (g : Reading) (input : List ℕ) → g ≡ Open → desk_after (has_ended g) input ≡ feed opening input
+desk_open g input e = rw e
+
+-- a desk may be named in another way
+at_desk : {d e : Desk} {s : State} {held holds : Option (List ℕ)} → d ≡ e → At e s held holds → At d s held holds
+at_desk {d} {e} {s} {held} {holds} q h = subst (λ (y : Desk). At y s held holds) (sym q) h
+
+pub reached_start : (s : State) (had held : Option (List ℕ)) → Opens s → RanTo 0 true s had had held held
+reached_start s had held e = record {
   input = [];
-  brought = consumes_none had;
+  brought = Consumes-nil had;
   blocks = 0;
   came = none;
-  reads = rw (e.7, e.8);
-  nothing_waits = e.3;
-  at = λ g. rw (e.8, feed_none) (opening_at r.state x o held l e.0 e.1 e.2 e.3 e.4 e.5);
+  reads = rw e.reading;
+  nothing_waits = e.used;
+  at = λ g. at_desk (desk_open s.reading [] e.reading ∙ feed_none opening) (opening_at s held e);
 }
 
-module _ (was r : Ran) (s : State) (x : List ℕ) (st : Tables) (rs o x' : List ℕ) (st' : Tables) (rs' o' : List ℕ)
-    (had has left held holds now after : Option (List ℕ)) (e : was.ended ≡ false)
-    (h : RanTo was x st rs o had has held holds) (one : r.reads ≡ was.reads + 1)
-    (up : s.open ≡ true → was.state.open ≡ true) (l : s.used ≤ length o') (p : PutOut s r.state)
-    (t : r.state.open ≡ true → Appends now after (take s.used o')) where
-  reads_before : was.reads ≡ h.blocks
-  reads_before = let z : was.reads ≡ h.blocks + 0 = rw e at h.reads in omega arith
+module _ (reads : ℕ) (took : Bool) (was s : State) (had has left held holds now : Option (List ℕ))
+    (o : was.reading ≡ Open) (h : RanTo reads true was had has held holds) (n : s.used ≡ 0) where
+  reads_before : reads ≡ h.blocks
+  reads_before = let z : reads ≡ h.blocks + 0 = rw o at h.reads in omega arith
 
-  before : s.open ≡ true → At (feed opening h.input) was.state x st rs o held holds
-  before g = rw e at (h.at (up g))
+  before : At (feed opening h.input) was held holds
+  before = at_desk (sym (desk_open was.reading h.input o)) (h.at refl)
 
   -- a block came
-  pub reached_block : (b : List ℕ) → 0 < length b → Consumes has left b → r.ended ≡ false
-      → ((d : Desk) → s.open ≡ true → At d was.state x st rs o held holds → At (feed d b) s x' st' rs' o' held now)
-      → RanTo r x' st' rs' o' had left held after
+  pub reached_block : (b : List ℕ) → 0 < length b → Consumes has left b → s.reading ≡ Open
+      → ((d : Desk) → At d was held holds → took ≡ true → At (feed d b) s held now)
+      → RanTo (reads + 1) took s had left held now
   reached_block b k c f a = record {
     input = h.input ++ b;
-    brought = consumes_then had has left h.input b h.brought c;
+    brought = Consumes-trans had has left h.input b h.brought c;
     blocks = suc h.blocks;
     came = more h.came b k;
-    reads = rw f (omega (arith, one, reads_before));
-    nothing_waits = p.2;
+    reads = rw f (omega (arith, reads_before));
+    nothing_waits = n;
     at = λ g.
-        let served = a (feed opening h.input) (p.4 g) (before (p.4 g)) in
-        rw (f, in_pieces opening h.input b) (at_put_out _ s r.state x' st' rs' o' held now after l p t served);
+        at_desk (desk_open s.reading (h.input ++ b) f ∙ in_pieces opening h.input b)
+        (a (feed opening h.input) before g);
   }
 
-  -- the end came
-  pub reached_end : Consumes has left [] → r.ended ≡ true
-      → ((d : Desk) → s.open ≡ true → At d was.state x st rs o held holds → At (ended d) s x' st' rs' o' held now)
-      → RanTo r x' st' rs' o' had left held after
-  reached_end c f a = record {
-    input = h.input;
-    brought = rw append-nil at (consumes_then had has left h.input [] h.brought c);
-    blocks = h.blocks;
-    came = h.came;
-    reads = rw f (omega (arith, one, reads_before));
-    nothing_waits = p.2;
-    at = λ g.
-        let served = a (feed opening h.input) (p.4 g) (before (p.4 g)) in
-        rw f (at_put_out _ s r.state x' st' rs' o' held now after l p t served);
-  }
+-- what holds of a call that succeeded
+pub on_ok_true : {T E P : Type 0} (r : Result T E) → OnOk r P → is_ok r ≡ true → P
+on_ok_true (Ok x) p e = p
+on_ok_true (Err x) p e = clash cc
 
--- a part that is not empty
-pub part_some : (n : ℕ) (b : List ℕ) → (n ≡ 0 → ⊥) → n ≤ length b → 0 < length (take (n - 0) b)
-part_some n b e l = rw (sub-zero, length-take-le n b l) (omega (arith, e))
+-- where the output is closed, nothing else stops the run
+pub runs_closed : {T E : Type 0} (r : Result T E) (n : ℕ) (s : State) (had has held holds : Option (List ℕ))
+    → is_err r ≡ true → RanTo n false s had has held holds → Runs (is_ok r) s had has held holds
+runs_closed (Ok x) n s had has held holds e h = clash cc
+runs_closed (Err x) n s had has held holds e h = record { reads = n; reached = h; stops = λ f g k. clash cc }
 
--- where the program reads on, the input's end has not come, and it may read once more
-pub reads_more : (going heard end : Bool) (n : ℕ) → (going && heard && not end && ltb n most_reads) ≡ true
-    → (end ≡ false) × (n < most_reads)
-reads_more true true false n e = (refl, ltb-true n most_reads e)
-reads_more true true true n e = clash cc
-reads_more true false end n e = clash cc
-reads_more false heard end n e = clash cc
+-- where the program reads on, the input is open; where it does not, its end came or no more lines are taken
+pub reads_more : (going : Bool) (g : Reading) → (going && not (has_ended g)) ≡ true → g ≡ Open
+reads_more true Open e = refl
+reads_more true Ended e = clash cc
+reads_more true Failed e = clash cc
+reads_more false g e = clash cc
 
--- where the program reads on no more, but could, it has read as often as it may
-pub reads_all : (going heard end : Bool) (n : ℕ) → (going && heard && not end && ltb n most_reads) ≡ false
-    → n ≤ most_reads → end ≡ false → going ≡ true → heard ≡ true → n ≡ most_reads
-reads_all going heard end n e m f g h =
-    let z : ltb n most_reads ≡ false = rw (f, g, h) at e in
-    omega (arith, ltb-false n most_reads z, m)
+pub reads_no_more : (going : Bool) (g : Reading) → (going && not (has_ended g)) ≡ false → has_ended g ≡ false
+    → going ≡ true → ⊥
+reads_no_more true Open e f h = clash cc
+reads_no_more true Ended e f h = clash cc
+reads_no_more true Failed e f h = clash cc
+reads_no_more false g e f h = clash cc

@@ -6,382 +6,221 @@
 // That standard input and output bring and take the bytes is the system's, and held to stdout.
 #![tactic(auto)]
 
-ghost use Rattle.std.specs.Prelude.{◌≡◌, ℕ, ◌+◌, ◌<◌, ◌≤◌, true, false, not, ◌&&◌, Option, List, length, take};
-ghost use Rattle.std.specs.Prelude.{replicate, nat_lt};
-ghost use Rattle.std.specs.Io.KnownBytes.{Appends, Consumes, IsAtEnd};
-ghost use Rattle.words.specs.Words.{longest_line, longest_answer, line_report};
-ghost use Rattle.rules.specs.Tables.{tables as tables_of};
-ghost use Rattle.line_session.specs.declared.Session.TheVariants.{Unopened};
-ghost use Rattle.line_serving.specs.Input.{Desk, feed, ended, zero_tables};
-ghost use Rattle.bench.specs.Carrying.{SameLine, PutOut, Waiting, At, Fed};
-ghost use Rattle.bench.specs.Running.{RanTo, Runs, Heard, Answers, most_reads};
+ghost use Rattle.std.specs.Prelude.{◌≤◌};
 
 use line_session::Session;
+use std::io;
 use std::io::{Read, Write};
 use words::Limit;
 
-// Where the program is: the place in the block, how many bytes of the line that has begun were counted, how many lines
-// were answered, the session value, how many bytes wait in the output array, how many were handed to write before them,
-// whether more lines are taken, and whether the output took all that was handed to it.
+// Whether the input may bring more: its end has not come, or it came, or a read failed, which ends it too.
 #[derive(Clone, Copy)]
+pub enum Reading {
+    Open,
+    Ended,
+    Failed,
+}
+
+// Where the program is, in fixed memory: the line that has begun and how many of its bytes were counted, how many lines
+// were answered, the session value with the tables and the report that it is lent, whether more lines are taken, the
+// output array with how many bytes wait in it, how many were handed to write before them, and what the last read said.
+// Whether lines are taken is a flag: no other field hangs on it.
+#[derive(Drop)]
 pub struct State {
-    pub from: usize,
+    pub line: [u8; Limit::LINE],
     pub have: usize,
     pub lines: u32,
     pub session: Session,
+    pub tasks: [u16; Limit::TASKS],
+    pub promises: [u16; Limit::PROMISES],
+    pub report: [u16; Limit::REPORT],
+    pub going: bool,
+    // Memory is fixed, without a heap, so the bytes that wait are counted beside the array that holds them.
+    pub out: [u8; 32768],
     pub used: usize,
     pub put: u64,
-    pub going: bool,
-    pub open: bool,
+    pub reading: Reading,
+    ghost waits_within: { used ≤ 32768 },
 }
 
-// Where the run is: how often it has read, whether the input's end came, and whether it came by a read that failed.
-#[derive(Clone, Copy)]
-pub struct Ran {
-    pub state: State,
-    pub reads: u64,
-    pub ended: bool,
-    pub failed: bool,
-}
+impl State {
+    ghost use Rattle.std.specs.Prelude.{◌≡◌, ℕ, ◌+◌, ◌<◌, ◌&&◌, true, not, Option, List, length, is_ok, OnOk};
+    ghost use Rattle.std.specs.Prelude.{OnErr, IfOk};
+    ghost use Rattle.std.specs.Io.KnownBytes.{IsAtEnd};
+    ghost use Rattle.words.specs.Words.{longest_answer};
+    ghost use Rattle.line_serving.specs.Input.{Desk, feed, ended};
+    ghost use Rattle.bench.specs.Carrying.{At, Fed};
+    ghost use Rattle.bench.specs.Running.{Opens, RanTo, Runs, Heard, Answers, has_ended};
 
-// Before the first line.
-fn start() -> Ran
-    ensures { (result.state.have ≡ 0) × (result.state.lines ≡ 0) × (result.state.session ≡ Unopened)
-        × (result.state.used ≡ 0) × (result.state.put ≡ 0) × (result.state.going ≡ true) × (result.state.open ≡ true)
-        × (result.reads ≡ 0) × (result.ended ≡ false) × (result.failed ≡ false) }
-{
-    let state = State {
-        from: 0,
-        have: 0,
-        lines: 0,
-        session: Session::Unopened,
-        used: 0,
-        put: 0,
-        going: true,
-        open: true,
-    };
-    Ran {
-        state,
-        reads: 0,
-        ended: false,
-        failed: false,
-    }
-}
-
-// How many bytes were handed to write, and whether the output took all of them.
-#[derive(Clone, Copy)]
-pub struct Handed {
-    pub bytes: usize,
-    pub taken: bool,
-}
-
-// Writes all of the bytes, or stops at the first write that takes none of them or fails. Says whether all were taken.
-fn write_all<W: Write>(output: &mut W, bytes: &[u8]) -> bool
-    ensures { result ≡ true → Appends (W.contents output.old) (W.contents output.new) bytes.now }
-{
-    let mut done = 0;
-    while done < bytes.len() {
-        match output.write(&bytes[done..]) {
-            Ok(0) | Err(_) => return false,
-            Ok(n) => done += n,
+    // Before the first line.
+    fn new() -> State
+        ensures { Opens result }
+    {
+        State {
+            line: [0; Limit::LINE],
+            have: 0,
+            lines: 0,
+            session: Session::Unopened,
+            tasks: [0; Limit::TASKS],
+            promises: [0; Limit::PROMISES],
+            report: [0; Limit::REPORT],
+            going: true,
+            out: [0; 32768],
+            used: 0,
+            put: 0,
+            reading: Reading::Open,
         }
     }
-    true
-}
 
-// Hands bytes to write: this is the one place that writes.
-fn hand_over<W: Write>(output: &mut W, bytes: &[u8]) -> Handed
-    ensures bytes { result.bytes ≡ length bytes.now }
-    ensures taken { result.taken ≡ true → Appends (W.contents output.old) (W.contents output.new) bytes.now }
-{
-    let taken = write_all(output, bytes);
-    Handed {
-        bytes: bytes.len(),
-        taken,
+    // Puts out the answers that wait: this is the one place that writes. An error says that not all of them were taken.
+    fn put_out<W: Write>(&mut self, output: &mut W) -> io::Result<()>
+        ensures none_waits { self.new.used ≡ 0 }
+        ensures same { self.new.reading ≡ self.old.reading }
+        ensures at { (d : Desk) (held : Option (List ℕ)) → At d self.old held (W.contents output.old)
+            → OnOk result (At d self.new held (W.contents output.new)) }
+    {
+        let taken = output.write_all(&self.out[..self.used]);
+        self.put = self.put.wrapping_add(self.used as u64);
+        self.used = 0;
+        taken
     }
-}
 
-// Puts out the answers that wait.
-fn put_out<W: Write>(output: &mut W, out: &[u8], s: State) -> State
-    requires { s.used ≤ length out.now }
-    ensures put { PutOut s result }
-    ensures taken { result.open ≡ true
-        → Appends (W.contents output.old) (W.contents output.new) (take s.used out.now) }
-{
-    let used = s.used;
-    let handed = hand_over(output, &out[0..used]);
-    let session = s.session;
-    State {
-        from: s.from,
-        have: s.have,
-        lines: s.lines,
-        session,
-        used: 0,
-        put: s.put.wrapping_add(handed.bytes as u64),
-        going: s.going,
-        open: s.open & handed.taken,
-    }
-}
-
-// Sees that the output array has room for an answer line. What waited still waits, or was put out.
-fn with_room<W: Write>(output: &mut W, out: &[u8], s: State) -> State
-    requires { (s.used ≤ length out.now) × (length out.now ≡ 32768) }
-    ensures { (result.from ≡ s.from) × SameLine s result × (result.used + longest_answer ≤ length out.now)
-        × (result.open ≡ true → s.open ≡ true)
-        × ((said : List ℕ) (held : Option (List ℕ)) → Waiting said s out.now held (W.contents output.old)
-        → Waiting said result out.now held (W.contents output.new)) }
-{
-    if out.len() - s.used < Limit::ANSWER {
-        return put_out(output, out, s);
-    }
-    s
-}
-
-// One line of the block, or what there is of it.
-fn serve_line<W: Write>(
-    output: &mut W,
-    block: &[u8],
-    line: &mut [u8],
-    tasks: &mut [u16],
-    promises: &mut [u16],
-    report: &mut [u16],
-    out: &mut [u8],
-    was: State,
-) -> State
-    requires { (was.from < length block.now) × (was.used ≤ length out.old) × (length out.old ≡ 32768) }
-    ensures from_lt_from { (was.from < result.from) × (result.from ≤ length block.now)
-        × (result.used ≤ length out.old) × (result.open ≡ true → was.open ≡ true) }
-    ensures fed { (d : Desk) (held : Option (List ℕ)) → was.going ≡ true
-        → At d was line.old (tables_of tasks.old promises.old) report.old
-        out.old held (W.contents output.old)
-        → Fed d block.now was.from result line.new
-        (tables_of tasks.new promises.new) report.new out.new held (W.contents output.new) }
-{
-    let s = with_room(output, out, was);
-    let used = s.used;
-    let before = s.session;
-    let served = line_serving::serve(
-        block,
-        s.from,
-        line,
-        s.have,
-        s.lines,
-        before,
-        tasks,
-        promises,
-        report,
-        &mut out[used..],
-    );
-    let session = served.session;
-    State {
-        from: served.next,
-        have: served.have,
-        lines: served.lines,
-        session,
-        used: used + served.bytes,
-        put: s.put,
-        going: served.going,
-        open: s.open,
-    }
-}
-
-// The same place in a new block: its start.
-fn at_start(was: State) -> State
-    ensures { (result.from ≡ 0) × SameLine was result × (result.used ≡ was.used) × (result.put ≡ was.put)
-        × (result.open ≡ was.open) }
-{
-    let session = was.session;
-    State {
-        from: 0,
-        have: was.have,
-        lines: was.lines,
-        session,
-        used: was.used,
-        put: was.put,
-        going: was.going,
-        open: was.open,
-    }
-}
-
-// Every line of a block, while lines are taken and the output is open. Wherever the program was, it is after the block
-// where the bytes taken one by one lead.
-fn serve_block<W: Write>(
-    output: &mut W,
-    block: &[u8],
-    line: &mut [u8],
-    tasks: &mut [u16],
-    promises: &mut [u16],
-    report: &mut [u16],
-    out: &mut [u8],
-    was: State,
-) -> State
-    requires { (was.used ≤ length out.old) × (length out.old ≡ 32768) }
-    ensures used_in_bounds { (result.used ≤ length out.old) × (result.open ≡ true → was.open ≡ true) }
-    ensures at { (d : Desk) (held : Option (List ℕ)) → result.open ≡ true
-        → At d was line.old (tables_of tasks.old promises.old) report.old
-        out.old held (W.contents output.old)
-        → At (feed d block.now) result line.new
-        (tables_of tasks.new promises.new) report.new out.new held (W.contents output.new) }
-{
-    let mut s = at_start(was);
-    while s.from < block.len() {
-        if !(s.going & s.open) {
-            return s;
+    // Sees that the output array has room for an answer line. What waited still waits, or was put out.
+    fn make_room<W: Write>(&mut self, output: &mut W) -> io::Result<()>
+        ensures room { self.new.used + longest_answer ≤ 32768 }
+        ensures at { (d : Desk) (held : Option (List ℕ)) → At d self.old held (W.contents output.old)
+            → OnOk result (At d self.new held (W.contents output.new)) }
+        ensures same { self.new.reading ≡ self.old.reading }
+        ensures closed { OnErr result (self.new.used ≡ 0) }
+    {
+        if self.out.len() - self.used < Limit::ANSWER {
+            return self.put_out(output);
         }
-        s = serve_line(output, block, line, tasks, promises, report, out, s);
+        Ok(())
     }
-    s
-}
 
-// The input ended. A last line without LF is served as if it had one.
-fn finish<W: Write>(
-    output: &mut W,
-    line: &mut [u8],
-    tasks: &mut [u16],
-    promises: &mut [u16],
-    report: &mut [u16],
-    out: &mut [u8],
-    s: State,
-) -> State
-    requires { (s.used ≤ length out.old) × (length out.old ≡ 32768) }
-    ensures used_in_bounds { (result.used ≤ length out.old) × (result.open ≡ true → s.open ≡ true) }
-    ensures at { (d : Desk) (held : Option (List ℕ)) → result.open ≡ true
-        → At d s line.old (tables_of tasks.old promises.old) report.old
-        out.old held (W.contents output.old)
-        → At (ended d) result line.new (tables_of tasks.new promises.new)
-        report.new out.new held (W.contents output.new) }
-{
-    if line_gather::is_last(s.have) {
-        return serve_block(output, b"\n", line, tasks, promises, report, out, s);
-    }
-    s
-}
-
-// How many bytes a read brought, and whether it failed.
-#[derive(Clone, Copy)]
-pub struct Brought {
-    pub bytes: usize,
-    pub failed: bool,
-}
-
-// One read. One that fails brings nothing: this is the one place that reads.
-fn read_block<R: Read>(input: &mut R, block: &mut [u8]) -> Brought
-    ensures within { result.bytes ≤ length block.new }
-    ensures brought { Consumes (R.remaining input.old) (R.remaining input.new) (take result.bytes block.new) }
-    ensures end { 0 < length block.old → result.bytes ≡ 0 → result.failed ≡ false
-        → IsAtEnd (R.remaining input.new) }
-{
-    match input.read(block) {
-        Ok(n) => Brought {
-            bytes: n,
-            failed: false,
-        },
-        Err(_) => Brought {
-            bytes: 0,
-            failed: true,
-        },
-    }
-}
-
-// One read and what it brings: the lines of a block, or the input's end. All answers are put out. A read that fails
-// ends the input.
-fn read_on<R: Read, W: Write>(
-    input: &mut R,
-    output: &mut W,
-    block: &mut [u8],
-    line: &mut [u8],
-    tasks: &mut [u16],
-    promises: &mut [u16],
-    report: &mut [u16],
-    out: &mut [u8],
-    was: Ran,
-) -> Ran
-    requires { (was.state.used ≤ length out.old) × (length out.old ≡ 32768) × (was.reads < most_reads) }
-    ensures reads_value { (result.reads ≡ was.reads + 1) × (result.state.used ≡ 0) }
-    ensures ran_to { (had held : Option (List ℕ)) → was.ended ≡ false
-        → RanTo was line.old (tables_of tasks.old promises.old)
-        report.old out.old had (R.remaining input.old) held (W.contents output.old)
-        → RanTo result line.new (tables_of tasks.new promises.new) report.new
-        out.new had (R.remaining input.new) held (W.contents output.new) }
-    ensures end { 0 < length block.old → result.ended ≡ true → result.failed ≡ false
-        → IsAtEnd (R.remaining input.new) }
-{
-    let brought = read_block(input, block);
-    let n = brought.bytes;
-    let reads = was.reads + 1;
-    let s = was.state;
-    if n == 0 {
-        let last = finish(output, line, tasks, promises, report, out, s);
-        let state = put_out(output, out, last);
-        return Ran {
-            state,
-            reads,
-            ended: true,
-            failed: brought.failed,
-        };
-    }
-    let served = serve_block(output, &block[0..n], line, tasks, promises, report, out, s);
-    let state = put_out(output, out, served);
-    Ran {
-        state,
-        reads,
-        ended: false,
-        failed: false,
-    }
-}
-
-// Whether the program reads on.
-fn reads_on(ran: Ran) -> bool
-    ensures { result ≡ (ran.state.going && ran.state.open && not ran.ended && nat_lt ran.reads most_reads) }
-{
-    let s = ran.state;
-    s.going & s.open & !ran.ended & (ran.reads < u64::MAX)
-}
-
-// The whole run.
-fn run<R: Read, W: Write>(
-    input: &mut R,
-    output: &mut W,
-    block: &mut [u8],
-    line: &mut [u8],
-    tasks: &mut [u16],
-    promises: &mut [u16],
-    report: &mut [u16],
-    out: &mut [u8],
-) -> Ran
-    requires { (length out.old ≡ 32768) × (length line.old ≡ longest_line)
-        × (tables_of tasks.old promises.old ≡ zero_tables) × (report.old ≡ replicate line_report 0) }
-    ensures runs { Runs result line.new (tables_of tasks.new promises.new) report.new
-        out.new (R.remaining input.old) (R.remaining input.new) (W.contents output.old) (W.contents output.new) }
-    ensures end { 0 < length block.old → result.ended ≡ true → result.failed ≡ false
-        → IsAtEnd (R.remaining input.new) }
-    ensures answers { 0 < length block.old → result.state.open ≡ true → Heard result
-        → Answers (R.remaining input.old) (W.contents output.old) (W.contents output.new) }
-{
-    let mut ran = start();
-    while reads_on(ran) {
-        ran = read_on(
-            input, output, block, line, tasks, promises, report, out, ran,
+    // One line of the block from `from` on, or what there is of it. Answers where the next one starts.
+    fn serve_line<W: Write>(
+        &mut self,
+        output: &mut W,
+        block: &[u8],
+        from: usize,
+    ) -> io::Result<usize>
+        requires { from < length block.now }
+        ensures next { IfOk result (λ next. (from < next) × (next ≤ length block.now)) }
+        ensures fed { (d : Desk) (held : Option (List ℕ)) → self.old.going ≡ true
+            → At d self.old held (W.contents output.old)
+            → IfOk result (λ next. Fed d block.now from next self.new held (W.contents output.new)) }
+        ensures same { self.new.reading ≡ self.old.reading }
+        ensures closed { OnErr result (self.new.used ≡ 0) }
+    {
+        self.make_room(output)?;
+        let out: &mut [u8] = &mut self.out;
+        let served = line_serving::serve(
+            block,
+            from,
+            &mut self.line,
+            self.have,
+            self.lines,
+            self.session,
+            &mut self.tasks,
+            &mut self.promises,
+            &mut self.report,
+            &mut out[self.used..],
         );
+        self.have = served.have;
+        self.lines = served.lines;
+        self.session = served.session;
+        self.going = served.going;
+        self.used += served.bytes;
+        Ok(served.next)
     }
-    ran
+
+    // Every line of a block, while lines are taken, and then puts out the answers that wait. Wherever the program was,
+    // it is after the block where the bytes taken one by one lead.
+    fn serve_block<W: Write>(&mut self, output: &mut W, block: &[u8]) -> io::Result<()>
+        ensures none_waits { self.new.used ≡ 0 }
+        ensures same { self.new.reading ≡ self.old.reading }
+        ensures at { (d : Desk) (held : Option (List ℕ)) → At d self.old held (W.contents output.old)
+            → OnOk result (At (feed d block.now) self.new held (W.contents output.new)) }
+    {
+        // Nothing is counted here: only serving a line tells where the next one starts.
+        let mut from = 0;
+        while self.going && from < block.len() {
+            from = self.serve_line(output, block, from)?;
+        }
+        self.put_out(output)
+    }
+
+    // The input ended. A last line without LF is served as if it had one.
+    fn finish<W: Write>(&mut self, output: &mut W, reading: Reading) -> io::Result<()>
+        requires { self.old.used ≡ 0 }
+        ensures none_waits { self.new.used ≡ 0 }
+        ensures same { self.new.reading ≡ reading }
+        ensures at { (d : Desk) (held : Option (List ℕ)) → At d self.old held (W.contents output.old)
+            → OnOk result (At (ended d) self.new held (W.contents output.new)) }
+    {
+        self.reading = reading;
+        if line_gather::is_last(self.have) {
+            return self.serve_block(output, b"\n");
+        }
+        Ok(())
+    }
+
+    // One read, the one place that reads, and what it brings: the lines of a block, or the input's end. A read that
+    // fails ends the input.
+    fn read_on<R: Read, W: Write>(
+        &mut self,
+        input: &mut R,
+        output: &mut W,
+        block: &mut [u8],
+    ) -> io::Result<()>
+        requires { (self.old.used ≡ 0) × (self.old.reading ≡ Reading.Open) }
+        ensures ran_to { (had held : Option (List ℕ)) (reads : ℕ)
+            → RanTo reads true self.old had (R.remaining input.old) held (W.contents output.old)
+            → RanTo (reads + 1) (is_ok result) self.new had (R.remaining input.new) held (W.contents output.new) }
+        ensures end { 0 < length block.old → self.new.reading ≡ Reading.Ended → IsAtEnd (R.remaining input.new) }
+    {
+        match input.read(block) {
+            Ok(0) => self.finish(output, Reading::Ended),
+            Ok(n) => self.serve_block(output, &block[..n]),
+            Err(_) => self.finish(output, Reading::Failed),
+        }
+    }
+
+    // Whether the program reads on.
+    fn reads_on(&self) -> bool
+        ensures { result ≡ (self.now.going && not (has_ended self.now.reading)) }
+    {
+        self.going && matches!(self.reading, Reading::Open)
+    }
+
+    // The whole run.
+    fn run<R: Read, W: Write>(
+        &mut self,
+        input: &mut R,
+        output: &mut W,
+        block: &mut [u8],
+    ) -> io::Result<()>
+        requires { Opens self.old }
+        ensures runs { Runs (is_ok result) self.new (R.remaining input.old) (R.remaining input.new)
+            (W.contents output.old) (W.contents output.new) }
+        ensures end { 0 < length block.old → self.new.reading ≡ Reading.Ended → IsAtEnd (R.remaining input.new) }
+        ensures answers { 0 < length block.old → Heard self.new
+            → OnOk result (Answers (R.remaining input.old) (W.contents output.old) (W.contents output.new)) }
+    {
+        for _ in 0..u64::MAX {
+            self.read_on(input, output, block)?;
+            if !self.reads_on() {
+                break;
+            }
+        }
+        Ok(())
+    }
 }
 
 fn main(rt: HostRuntime) {
-    let mut block = [0u8; 16384];
-    let mut line = [0u8; Limit::LINE];
-    let mut out = [0u8; 32768];
-    let mut report = [0u16; Limit::REPORT];
-    let mut promises = [0u16; Limit::PROMISES];
-    let mut tasks = [0u16; Limit::TASKS];
-    run(
-        &mut rt.stdin(),
-        &mut rt.stdout(),
-        &mut block,
-        &mut line,
-        &mut tasks,
-        &mut promises,
-        &mut report,
-        &mut out,
-    );
+    let mut block = [0; 16384];
+    // Where the output is closed, the program ends as it does at the input's end.
+    let _ = State::new().run(&mut rt.stdin(), &mut rt.stdout(), &mut block);
 }

@@ -1,2 +1,3 @@
-pub mod BoardLaws
 pub mod ReadLaws
+pub mod Reading
+pub mod Parts

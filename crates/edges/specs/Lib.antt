@@ -1,2 +1,4 @@
 pub mod Board
+pub mod Lines
+pub mod Commands
 pub mod Asking

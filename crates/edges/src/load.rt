@@ -1,20 +1,21 @@
 // Loading. The board holds what is loaded: the task table, the promise table and the report.
-ghost use Rattle.std.specs.Prelude.{◌≤◌, ◌≡◌, length};
-ghost use Rattle.std.proofs.lemmas.List.Edits.{sets};
-ghost use Rattle.edges.specs.Board.{board_tasks, board_promises, report_from, words_from};
-ghost use Rattle.edges.specs.Board.{sized_stage, Fits, FreshensOn};
+ghost use Rattle.std.specs.Prelude.{◌≡◌, replicate, OnOk, OnErr};
+ghost use Rattle.rules.specs.Refusals.{refused_by};
+ghost use Rattle.edges.specs.Board.{FreshensOn, HasLeastReport};
 
-use crate::show;
-use check::same;
-use std::io::Write;
-use table_access::{at, put};
+use crate::read::NotUnderstood;
+use crate::row::Row;
+use rules::Refusal;
 use words::Limit;
 
-// The board: the most words of its parts, where they begin, and how many words it has. Each part has one word more
-// than it ever needs.
-#[derive(Clone, Copy)]
+// What is loaded, and whether the steps are those of a story: no other field hangs on that, so it is a flag. Each part
+// has room for one word more than it ever needs.
+#[derive(Clone, Copy, Default)]
 pub struct Board {
-    pub most: usize,
+    pub tasks: Row<{ Board::TASKS }>,
+    pub promises: Row<{ Board::PROMISES }>,
+    pub report: Row<{ Board::REPORT }>,
+    pub story: bool,
 }
 
 impl Board {
@@ -24,158 +25,67 @@ impl Board {
 
     pub const REPORT: usize = Board::PROMISES + 2 * Board::TASKS + 1;
 
-    pub const PROMISES_FROM: usize = Board::TASKS;
-
-    pub const REPORT_FROM: usize = Board::PROMISES_FROM + Board::PROMISES;
-
-    pub const WORDS: usize = Board::REPORT_FROM + Board::REPORT;
-}
-
-// How many words of the board are the task table, the promise table and the report, and whether the steps are those
-// of a story.
-#[derive(Clone, Copy)]
-pub struct Stage {
-    pub tasks: usize,
-    pub promises: usize,
-    pub room: usize,
-    pub story: bool,
-}
-
-// Tables of these sizes with the least report, and no story.
-pub fn sized(tasks: usize, promises: usize) -> Stage
-    requires { (tasks ≤ board_tasks) × (promises ≤ board_promises) }
-    ensures { (result ≡ sized_stage tasks promises) × Fits result }
-{
-    Stage {
-        tasks,
-        promises,
-        room: promises + 2 * tasks,
-        story: false,
+    // The report has the least room for the tables as they are now, and there is no story.
+    fn fit_report(&mut self)
+        ensures { HasLeastReport self.old self.new }
+    {
+        self.report.length = self.promises.length + 2 * self.tasks.length;
+        self.story = false;
     }
-}
 
-// Fills `to` with the words that `from` has from index `start` on, 0 past its end.
-pub fn fill(to: &mut [u16], from: &[u16], start: usize)
-    requires { start ≤ report_from }
-    ensures { to.new ≡ words_from from.now start (length to.old) }
-{
-    let mut i = 0;
-    while i < to.len() {
-        to[i] = at(from, start + i);
-        i += 1;
+    // Makes the tables fresh. Returns what `fresh` answered.
+    pub fn freshen(&mut self) -> Result<(), Refusal>
+        ensures { FreshensOn self.old (refused_by result) self.new }
+    {
+        let mut tasks = self.tasks.words;
+        let mut promises = self.promises.words;
+        let answer = table_fresh::fresh(
+            &mut tasks[..self.tasks.length],
+            &mut promises[..self.promises.length],
+        );
+        self.tasks.words = tasks;
+        self.promises.words = promises;
+        answer
     }
-}
 
-// Writes the words to the board from index `start` on.
-pub fn store(words: &[u16], board: &mut [u16], start: usize)
-    requires { start ≤ report_from }
-    ensures { board.new ≡ sets board.old start words.now }
-{
-    let mut i = 0;
-    while i < words.len() {
-        put(board, start + i, words[i]);
-        i += 1;
-    }
-}
-
-// Makes the tables of the board fresh in these two, and puts them back. Returns what `fresh` answered.
-fn fresh_to(tasks: &mut [u16], promises: &mut [u16], board: &mut [u16]) -> u16
-    ensures { FreshensOn board.old (length tasks.old) (length promises.old) result
-        board.new }
-{
-    fill(tasks, board, 0);
-    fill(promises, board, Board::PROMISES_FROM);
-    let answer = table_fresh::fresh(tasks, promises);
-    store(tasks, board, 0);
-    store(promises, board, Board::PROMISES_FROM);
-    answer
-}
-
-// Makes the tables on the board fresh. Returns what `fresh` answered.
-pub fn freshen(board: &mut [u16], s: Stage) -> u16
-    requires { Fits s }
-    ensures { FreshensOn board.old s.tasks s.promises result board.new }
-{
-    let mut tasks = [0u16; Board::TASKS];
-    let mut promises = [0u16; Board::PROMISES];
-    let m = s.tasks;
-    let n = s.promises;
-    fresh_to(&mut tasks[0..m], &mut promises[0..n], board)
-}
-
-// A report of as many words as the value says.
-fn load_report<W: Write>(output: &mut W, values: &[u16], s: Stage) -> Stage
-    requires { Fits s }
-    ensures { Fits result }
-{
-    let room = at(values, 0) as usize;
-    if Board::REPORT < room {
-        show::not_understood(output, b"report");
-        return s;
-    }
-    Stage {
-        tasks: s.tasks,
-        promises: s.promises,
-        room,
-        story: false,
-    }
-}
-
-// The load of a word that has its own count of numbers.
-fn load_counted<W: Write>(
-    output: &mut W,
-    word: &[u8],
-    values: &[u16],
-    board: &mut [u16],
-    s: Stage,
-) -> Stage
-    requires { Fits s }
-    ensures { Fits result }
-{
-    let n = values.len();
-    if (n == 1) & same(word, b"report") {
-        return load_report(output, values, s);
-    }
-    if (n == 0) & same(word, b"fresh") {
-        freshen(board, s);
-        return sized(s.tasks, s.promises);
-    }
-    if (n == 0) & same(word, b"story") {
-        return Stage {
-            tasks: s.tasks,
-            promises: s.promises,
-            room: s.room,
-            story: true,
-        };
-    }
-    show::not_understood(output, word);
-    s
-}
-
-// The load that a line without a name asks for. The report is full of 9s after it.
-pub fn load<W: Write>(
-    output: &mut W,
-    word: &[u8],
-    values: &[u16],
-    board: &mut [u16],
-    s: Stage,
-) -> Stage
-    requires { Fits s }
-    ensures { Fits result }
-{
-    let n = values.len();
-    store(&[9; Board::REPORT], board, Board::REPORT_FROM);
-    if n <= Board::TASKS {
-        if same(word, b"tasks") {
-            store(values, board, 0);
-            return sized(n, s.promises);
+    // A report of as many words as told.
+    fn load_report(&mut self, room: u16) -> Result<(), NotUnderstood>
+        ensures words { self.new.report.words ≡ self.old.report.words }
+        ensures room { OnOk result (self.new.report.length ≡ room) }
+        ensures too_many { OnErr result (self.new ≡ self.old) }
+    {
+        let room = usize::from(room);
+        if Board::REPORT < room {
+            return Err(NotUnderstood);
         }
+        self.report.length = room;
+        self.story = false;
+        Ok(())
     }
-    if n <= Board::PROMISES {
-        if same(word, b"promises") {
-            store(values, board, Board::PROMISES_FROM);
-            return sized(s.tasks, n);
+
+    // The load that a line without a name asks for. The report is full of 9s after it.
+    pub fn load(&mut self, word: &[u8], values: &[u16]) -> Result<(), NotUnderstood>
+        ensures { self.new.report.words ≡ replicate Board.REPORT 9 }
+    {
+        self.report.words.fill(9);
+        match (word, values) {
+            (b"tasks", tasks) => {
+                self.tasks = Row::try_from(tasks)?;
+                self.fit_report();
+            }
+            (b"promises", promises) => {
+                self.promises = Row::try_from(promises)?;
+                self.fit_report();
+            }
+            (b"report", [room]) => return self.load_report(*room),
+            // Tables that `fresh` refuses stay as they are.
+            (b"fresh", []) => {
+                let _ = self.freshen();
+                self.fit_report();
+            }
+            (b"story", []) => self.story = true,
+            _ => return Err(NotUnderstood),
         }
+        Ok(())
     }
-    load_counted(output, word, values, board, s)
 }

@@ -8,79 +8,46 @@
 mod load;
 mod play;
 mod read;
+mod row;
 mod show;
 
-ghost use Rattle.std.specs.Prelude.{◌≡◌, ◌≤◌, length, take};
+ghost use Rattle.std.specs.Prelude.{◌≤◌, length, take};
 ghost use Rattle.std.specs.Io.KnownBytes.{Consumes};
-ghost use Rattle.edges.specs.Board.{board_words, Fits};
 
-use load::{Board, Stage};
+use load::Board;
 use std::io::{Read, Write};
 
-// Whether a line says nothing to the program: it is empty, or a comment.
-fn is_silent(line: &[u8]) -> bool {
-    if line.len() == 0 {
-        return true;
+// Does what a line says, unless it is empty or a comment: a case has a name and a colon before its command, a load has
+// none.
+fn obey<W: Write>(output: &mut W, line: &[u8], board: &mut Board) {
+    if let [] | [b'#', ..] = line {
+        return;
     }
-    line[0] == b'#'
-}
-
-// Does what a line says: it has a name and a colon if it is a case, then a word and numbers, which go to the list.
-// Returns the stage for the next line.
-fn obey<W: Write>(
-    output: &mut W,
-    line: &[u8],
-    list: &mut [u16],
-    board: &mut [u16],
-    s: Stage,
-) -> Stage
-    requires board_len { length board.old ≡ board_words }
-    requires fits { Fits s }
-    ensures { Fits result }
-{
-    if is_silent(line) {
-        return s;
+    let (name, text) = read::parted(line);
+    let Ok(command) = read::read_command(text) else {
+        show::not_understood(output, name.unwrap_or(line));
+        return;
+    };
+    if let Some(name) = name {
+        play::play(output, name, &command, board);
+    } else if board.load(command.word, command.values.as_slice()).is_err() {
+        show::not_understood(output, command.word);
     }
-    let colon = read::end_of(line, 0, b':');
-    let start = read::command_start(line, colon);
-    let end = read::end_of(line, start, b' ');
-    let found = read::values(&line[end..], list);
-    let n = found.count;
-    if !found.good {
-        show::not_understood(output, &line[0..colon]);
-        return s;
-    }
-    if colon < line.len() {
-        play::play(
-            output,
-            &line[0..colon],
-            &line[start..end],
-            &list[0..n],
-            board,
-            s,
-        );
-        return s;
-    }
-    load::load(output, &line[start..end], &list[0..n], board, s)
 }
 
 // Every line of the text, on tables that have no words before the first.
-fn run<W: Write>(output: &mut W, text: &[u8], list: &mut [u16], board: &mut [u16])
-    requires { length board.old ≡ board_words }
-{
-    let mut s = load::sized(0, 0);
-    let mut at = 0;
-    while at < text.len() {
-        let end = read::end_of(text, at, b'\n');
-        s = obey(output, &text[at..end], list, board, s);
-        at = end + 1;
+fn run<W: Write>(output: &mut W, text: &[u8]) {
+    let mut board = Board::default();
+    for line in text.split(|b| *b == b'\n') {
+        obey(output, line, &mut board);
     }
 }
 
 // The most bytes of the input, and one more.
 const TEXT: usize = 32768;
 
-// Reads until the array is full, the input ends or a read fails. Returns how many bytes were put at its front.
+// Reads until the array is full, the input ends or a read fails. Returns how many bytes were put at its front. By hand,
+// since std's reading to the end of an input takes memory from the heap.
 fn read_full<R: Read>(input: &mut R, text: &mut [u8]) -> usize
     ensures within { result ≤ length text.new }
     ensures brought { Consumes (R.remaining input.old) (R.remaining input.new) (take result text.new) }
@@ -98,12 +65,10 @@ fn read_full<R: Read>(input: &mut R, text: &mut [u8]) -> usize
 // Reads the whole input and runs it.
 fn main(rt: HostRuntime) {
     let mut text = [0u8; TEXT];
-    let mut list = [0u16; Board::REPORT];
-    let mut board = [0u16; Board::WORDS];
     let n = read_full(&mut rt.stdin(), &mut text);
     let mut output = rt.stdout();
     if n == TEXT {
         show::text(&mut output, b"the input does not fit\n");
     }
-    run(&mut output, &text[0..n], &mut list, &mut board);
+    run(&mut output, &text[..n]);
 }

@@ -1,150 +1,83 @@
-// Playing a case: the steps are taken on a copy of what is on the board, and in a story what they leave goes back to
-// it.
-ghost use Rattle.std.specs.Prelude.{◌≤◌, ◌≡◌, length};
-ghost use Rattle.edges.specs.Board.{board_words, report_from, Fits};
-
-use crate::load::{Board, Stage, fill, freshen, store};
-use crate::read::{Asked, list_of, step_of};
+// Playing a case: the steps are taken on a copy of the board, and in a story what they leave goes back to it.
+use crate::load::Board;
+use crate::read::{Command, NotUnderstood, step_of};
 use crate::show;
-use check::same;
+use rules::{Answer, Refusal};
 use std::io::Write;
-use step_kinds::Kind;
-use steps::step;
-use table_access::at;
+use steps::{Lent, Step};
 
-// Takes the step and prints its answer.
-fn act<W: Write>(
-    output: &mut W,
-    tasks: &mut [u16],
-    promises: &mut [u16],
-    report: &mut [u16],
-    asked: Asked,
-    list: &[u16],
-) {
-    match asked {
-        Asked::Step(kind, t, p) => {
-            show::answer(output, step(tasks, promises, report, kind, t, p, list));
-        }
-        Asked::Unknown => {
-            show::text(output, b" not understood");
-        }
-    }
+// Takes the step on the board. The arrays are copied and put back: the check has no proof of a loan of a part of them
+// where they stand.
+fn take(board: &mut Board, step: Step<'_>) -> Answer {
+    let mut tasks = board.tasks.words;
+    let mut promises = board.promises.words;
+    let mut report = board.report.words;
+    let mut lent = Lent {
+        tasks: &mut tasks[..board.tasks.length],
+        promises: &mut promises[..board.promises.length],
+        report: &mut report[..board.report.length],
+    };
+    let answer = lent.take(step);
+    board.tasks.words = tasks;
+    board.promises.words = promises;
+    board.report.words = report;
+    answer
 }
 
-// Whether the words are those that the board has from index `start` on.
-fn same_words(words: &[u16], board: &[u16], start: usize) -> bool
-    requires { start ≤ report_from }
-{
-    let mut i = 0;
-    while i < words.len() {
-        if words[i] != at(board, start + i) {
-            return false;
-        }
-        i += 1;
-    }
-    true
-}
-
-// Prints the words under a name where they are no longer those of the board. Returns whether they are.
-fn show_changed<W: Write>(
-    output: &mut W,
-    name: &[u8],
-    words: &[u16],
-    board: &[u16],
-    start: usize,
-) -> bool
-    requires { start ≤ report_from }
-{
-    if same_words(words, board, start) {
+// Prints the words under a name where they are no longer as before. Returns whether they are.
+fn show_changed<W: Write>(output: &mut W, name: &[u8], before: &[u16], words: &[u16]) -> bool {
+    if words == before {
         return true;
     }
     show::words(output, name, words);
     false
 }
 
-// Prints each table and the report that is no longer as on the board, whole; `kept` where none is.
-fn show_changes<W: Write>(
-    output: &mut W,
-    tasks: &[u16],
-    promises: &[u16],
-    report: &[u16],
-    board: &[u16],
-) {
-    let a = show_changed(output, b", tasks", tasks, board, 0);
-    let b = show_changed(output, b", promises", promises, board, Board::PROMISES_FROM);
-    let c = show_changed(output, b", report", report, board, Board::REPORT_FROM);
-    show::end_line(output, a & b & c);
+// Prints each table and the report that is no longer as before, whole; `kept` where none is.
+fn show_changes<W: Write>(output: &mut W, before: &Board, board: &Board) {
+    let tasks = show_changed(
+        output,
+        b", tasks",
+        before.tasks.as_slice(),
+        board.tasks.as_slice(),
+    );
+    let promises = show_changed(
+        output,
+        b", promises",
+        before.promises.as_slice(),
+        board.promises.as_slice(),
+    );
+    let report = show_changed(
+        output,
+        b", report",
+        before.report.as_slice(),
+        board.report.as_slice(),
+    );
+    show::end_line(output, tasks && promises && report);
 }
 
-// In a story the board has the tables and the report as they are now.
-fn keep(story: bool, tasks: &[u16], promises: &[u16], report: &[u16], board: &mut [u16]) {
-    if story {
-        store(tasks, board, 0);
-        store(promises, board, Board::PROMISES_FROM);
-        store(report, board, Board::REPORT_FROM);
+// Takes the step on a copy of the board and prints the rest of its line. In a story the copy is the board from then on.
+fn step_told<W: Write>(output: &mut W, board: &mut Board, step: Result<Step<'_>, NotUnderstood>) {
+    let mut copy = *board;
+    match step {
+        Ok(step) => show::answer(output, take(&mut copy, step)),
+        Err(NotUnderstood) => show::text(output, b" not understood"),
+    }
+    show_changes(output, board, &copy);
+    if board.story {
+        *board = copy;
     }
 }
 
-// Takes the step on a copy of the board, in these three, and prints what it did.
-fn act_told<W: Write>(
-    output: &mut W,
-    tasks: &mut [u16],
-    promises: &mut [u16],
-    report: &mut [u16],
-    asked: Asked,
-    list: &[u16],
-    board: &mut [u16],
-    story: bool,
-) {
-    fill(tasks, board, 0);
-    fill(promises, board, Board::PROMISES_FROM);
-    fill(report, board, Board::REPORT_FROM);
-    act(output, tasks, promises, report, asked, list);
-    show_changes(output, tasks, promises, report, board);
-    keep(story, tasks, promises, report, board);
-}
-
-// Takes the step and prints the rest of its line.
-fn step_told<W: Write>(output: &mut W, board: &mut [u16], s: Stage, asked: Asked, list: &[u16])
-    requires { Fits s }
-{
-    let mut tasks = [0u16; Board::TASKS];
-    let mut promises = [0u16; Board::PROMISES];
-    let mut report = [0u16; Board::REPORT];
-    let m = s.tasks;
-    let n = s.promises;
-    let k = s.room;
-    act_told(
-        output,
-        &mut tasks[0..m],
-        &mut promises[0..n],
-        &mut report[0..k],
-        asked,
-        list,
-        board,
-        s.story,
-    );
-}
-
 // Prints the words of both tables on the board, under a name of the first.
-fn show_tables<W: Write>(output: &mut W, name: &[u8], board: &[u16], s: Stage)
-    requires board_len { length board.now ≡ board_words }
-    requires fits { Fits s }
-{
-    let m = s.tasks;
-    let e = Board::PROMISES_FROM + s.promises;
-    show::words(output, name, &board[0..m]);
-    show::words(output, b", promises", &board[Board::PROMISES_FROM..e]);
+fn show_tables<W: Write>(output: &mut W, name: &[u8], board: &Board) {
+    show::words(output, name, board.tasks.as_slice());
+    show::words(output, b", promises", board.promises.as_slice());
 }
 
 // Prints whether the tables on the board are sound.
-fn show_soundness<W: Write>(output: &mut W, board: &[u16], s: Stage)
-    requires board_len { length board.now ≡ board_words }
-    requires fits { Fits s }
-{
-    let m = s.tasks;
-    let e = Board::PROMISES_FROM + s.promises;
-    if table_sound::is_sound(&board[0..m], &board[Board::PROMISES_FROM..e]) {
+fn show_soundness<W: Write>(output: &mut W, board: &Board) {
+    if table_sound::is_sound(board.tasks.as_slice(), board.promises.as_slice()) {
         show::text(output, b" sound,");
     } else {
         show::text(output, b" damaged,");
@@ -152,51 +85,29 @@ fn show_soundness<W: Write>(output: &mut W, board: &[u16], s: Stage)
 }
 
 // Makes the tables on the board fresh, and prints what became of them and what `new 0 0` did.
-fn fresh_told<W: Write>(output: &mut W, board: &mut [u16], s: Stage)
-    requires board_len { length board.old ≡ board_words }
-    requires fits { Fits s }
-{
+fn fresh_told<W: Write>(output: &mut W, board: &mut Board) {
+    let refused = board.freshen().err();
     show::text(output, b" fresh");
-    show::number(output, freshen(board, s));
-    show_tables(output, b", tasks", board, s);
+    show::number(output, refused.map_or(0, Refusal::number));
+    show_tables(output, b", tasks", board);
     show::text(output, b", then");
-    step_told(output, board, s, Asked::Step(Kind::New, 0, 0), &[]);
+    step_told(output, board, Ok(Step::New(0, 0)));
 }
 
 // One line: the name, and what the case did.
-pub fn play<W: Write>(
-    output: &mut W,
-    name: &[u8],
-    word: &[u8],
-    values: &[u16],
-    board: &mut [u16],
-    s: Stage,
-)
-    requires board_len { length board.old ≡ board_words }
-    requires fits { Fits s }
-{
+pub fn play<W: Write>(output: &mut W, name: &[u8], command: &Command<'_>, board: &mut Board) {
     show::text(output, name);
     show::text(output, b":");
-    let n = values.len();
-    if (n == 0) & same(word, b"tables") {
-        show_tables(output, b" tasks", board, s);
-        show::text(output, b"\n");
-        return;
+    match (command.word, command.values.as_slice()) {
+        (b"tables", []) => {
+            show_tables(output, b" tasks", board);
+            show::text(output, b"\n");
+        }
+        (b"fresh", []) => fresh_told(output, board),
+        (b"sound", [task]) => {
+            show_soundness(output, board);
+            step_told(output, board, Ok(Step::New(*task, 1)));
+        }
+        (word, values) => step_told(output, board, step_of(word, values)),
     }
-    if (n == 0) & same(word, b"fresh") {
-        fresh_told(output, board, s);
-        return;
-    }
-    if (n == 1) & same(word, b"sound") {
-        show_soundness(output, board, s);
-        step_told(
-            output,
-            board,
-            s,
-            Asked::Step(Kind::New, at(values, 0), 1),
-            &[],
-        );
-        return;
-    }
-    step_told(output, board, s, step_of(word, values), list_of(values));
 }

@@ -1,137 +1,102 @@
-// Reading a line: where its parts end, its numbers, and the case that it asks for.
-ghost use Rattle.std.specs.Prelude.{◌+◌, ◌≤◌, ◌≡◌, length, drop};
-ghost use Rattle.text_fields.specs.Fields.{end_from};
+// Reading a line: its name, its command and the numbers in it, and the step that a case asks for.
+ghost use Rattle.std.specs.Prelude.{◌≡◌, ◌<◌, ◌==◌, length, take, drop, position, IfSome, IfOk, OnOk, OnErr};
+ghost use Rattle.std.specs.Option.{option_copied, option_map};
+ghost use Rattle.std.specs.Result.{result_ok};
+ghost use Rattle.steps.specs.Named.{of_rules};
+ghost use Rattle.edges.specs.Commands.{number_of, repeat_in, words_in, joined, all_words, IsTooMuch};
+ghost use Rattle.edges.specs.Commands.{word_in, fields_in};
+ghost use Rattle.edges.specs.Lines.{name_in, command_in, without_blank};
 ghost use Rattle.edges.specs.Asking.{takes_numbers, asks_for};
 
-use step_kinds::{Kind, Shape, shape_of};
-use table_access::at;
-use text_fields::run_end;
+use crate::load::Board;
+use crate::row::Row;
+use step_kinds::{Shape, shape_of};
+use steps::{Step, step_by};
 use text_keywords::{Keyword, keyword_of};
-use text_numbers::{Num, number};
+use text_numbers::number;
 
-// What a case asks for: a step, by its kind and its first two numbers, or nothing that there is. A step's list stands
-// beside it.
+// Says that a line, or a part of it, asks for nothing that there is.
 #[derive(Clone, Copy)]
-pub enum Asked {
-    Step(Kind, u16, u16),
-    Unknown,
-}
+pub struct NotUnderstood;
 
-// A word that is repeated.
+// A word, and the numbers after it, no more than a report has words.
 #[derive(Clone, Copy)]
-enum Repeat {
-    Times(u16, u16),
-    Unknown,
+pub struct Command<'a> {
+    pub word: &'a [u8],
+    pub values: Row<{ Board::REPORT }>,
 }
 
-// How many words a text gave, and whether all of it was good.
-#[derive(Clone, Copy)]
-pub struct Found {
-    pub count: usize,
-    pub good: bool,
-}
-
-// Where the text from `from` on comes to the byte `stop`, or to its end.
-pub fn end_of(text: &[u8], from: usize, stop: u8) -> usize
-    requires { from ≤ length text.now }
-    ensures { (result ≡ end_from stop text.now from) × (from ≤ result) × (result ≤ length text.now) }
+// Where the byte first stands in the text.
+fn place_of(text: &[u8], byte: u8) -> Option<usize>
+    ensures place { result ≡ position (λ b. b == byte) text.now }
+    ensures within { IfSome result (λ i. i < length text.now) }
 {
-    run_end(text, from, stop)
+    text.iter().position(|b| *b == byte)
 }
 
-// Where the command of a line starts: at its front, or after the colon and a blank. At the line's end, where no blank
-// is there.
-pub fn command_start(line: &[u8], colon: usize) -> usize
-    ensures { result ≤ length line.now }
+// The text without the blank at its front; empty where it has none there.
+fn without_blank(text: &[u8]) -> &[u8]
+    ensures { result.now ≡ without_blank text.now }
 {
-    if line.len() <= colon {
-        return 0;
-    }
-    if line.len() - colon < 2 {
-        return line.len();
-    }
-    if line[colon + 1] != b' ' {
-        return line.len();
-    }
-    colon + 2
-}
-
-// The repetition of two numbers, if both are numbers.
-fn repeat_by(word: Num, times: Num) -> Repeat {
-    match word {
-        Num::Is(w) => match times {
-            Num::Is(n) => Repeat::Times(w, n),
-            Num::Bad(_) => Repeat::Unknown,
-        },
-        Num::Bad(_) => Repeat::Unknown,
+    match text {
+        [b' ', rest @ ..] => rest,
+        _ => &[],
     }
 }
 
-// A number stands for itself once; with a star and a number after it, as often as that says.
-fn repeat_of(field: &[u8]) -> Repeat {
-    let star = end_of(field, 0, b'*');
-    if star < field.len() {
-        return repeat_by(number(&field[0..star]), number(&field[star + 1..]));
-    }
-    repeat_by(number(field), Num::Is(1))
-}
-
-// Writes the word at the first `n` places of the list.
-fn put_times(list: &mut [u16], w: u16, n: usize)
-    requires { n ≤ length list.old }
+// The name of a line's case, where it has one, and its command: after the colon and a blank, or the whole line.
+pub fn parted(line: &[u8]) -> (Option<&[u8]>, &[u8])
+    ensures name { option_copied result.0 ≡ name_in line.now }
+    ensures command { result.1.now ≡ command_in line.now }
 {
-    let mut i = 0;
-    while i < n {
-        list[i] = w;
-        i += 1;
+    match place_of(line, b':') {
+        Some(colon) => (Some(&line[..colon]), without_blank(&line[colon + 1..])),
+        None => (None, line),
     }
 }
 
-// Writes what is repeated to the list after its first `have` words, if there is room.
-fn add_repeat(list: &mut [u16], have: usize, r: Repeat) -> Found
-    requires { have ≤ length list.old }
-    ensures { result.count ≤ length list.old }
+// The number that a field holds, if it holds one.
+fn number_of(field: &[u8]) -> Option<u16>
+    ensures { result ≡ number_of field.now }
 {
-    match r {
-        Repeat::Times(w, n) => {
-            if list.len() - have < n as usize {
-                return Found {
-                    count: have,
-                    good: false,
-                };
-            }
-            put_times(&mut list[have..], w, n as usize);
-            Found {
-                count: have + n as usize,
-                good: true,
-            }
-        }
-        Repeat::Unknown => Found {
-            count: have,
-            good: false,
-        },
+    number(field).ok()
+}
+
+// A word and how many times it stands there: once, or with a star and a number after it, as often as that says.
+fn repeat_of(field: &[u8]) -> Option<(u16, u16)>
+    ensures { result ≡ repeat_in field.now }
+{
+    match place_of(field, b'*') {
+        Some(star) => number_of(&field[..star]).zip(number_of(&field[star + 1..])),
+        None => number_of(field).map(|n| (n, 1)),
     }
 }
 
-// The numbers of a text, each with a blank before it, written to the front of the list.
-pub fn values(text: &[u8], list: &mut [u16]) -> Found
-    ensures { result.count ≤ length list.old }
+// Adds the words that a field stands for.
+fn add_field(values: &mut Row<{ Board::REPORT }>, field: &[u8]) -> Result<(), NotUnderstood>
+    ensures ok { OnOk result (joined (Some (take values.old.length values.old.words)) (words_in field.now)
+        ≡ Some (take values.new.length values.new.words)) }
+    ensures err { OnErr result (IsTooMuch Board.REPORT
+        (joined (Some (take values.old.length values.old.words)) (words_in field.now))) }
 {
-    let mut found = Found {
-        count: 0,
-        good: true,
-    };
-    let mut i = 0;
-    while i < text.len() {
-        let start = i + 1;
-        let end = end_of(text, start, b' ');
-        found = add_repeat(list, found.count, repeat_of(&text[start..end]));
-        if !found.good {
-            return found;
-        }
-        i = end;
+    let (word, times) = repeat_of(field).ok_or(NotUnderstood)?;
+    values.push_times(word, usize::from(times))
+}
+
+// The word and the numbers of a text that has a blank before each of its fields.
+pub fn read_command(text: &[u8]) -> Result<Command<'_>, NotUnderstood>
+    ensures word { IfOk result (λ c. c.word.now ≡ word_in text.now) }
+    ensures values { IfOk result (λ c. all_words (fields_in text.now)
+        ≡ Some (take c.values.length c.values.words)) }
+    ensures err { OnErr result (IsTooMuch Board.REPORT (all_words (fields_in text.now))) }
+{
+    let mut fields = text.split(|b| *b == b' ');
+    let word = fields.next().unwrap_or(text);
+    let mut values = Row::default();
+    for field in fields {
+        add_field(&mut values, field)?;
     }
-    found
+    Ok(Command { word, values })
 }
 
 // Whether a step of the shape takes `n` numbers.
@@ -145,28 +110,23 @@ fn takes_numbers(shape: Shape, n: usize) -> bool
     }
 }
 
-// What the word and the numbers ask for.
-pub fn step_of(word: &[u8], values: &[u16]) -> Asked
-    ensures { result ≡ asks_for word.now values.now }
-{
-    match keyword_of(word) {
-        Keyword::Open => Asked::Unknown,
-        Keyword::Step(kind) => {
-            if takes_numbers(shape_of(kind), values.len()) {
-                return Asked::Step(kind, at(values, 0), at(values, 1));
-            }
-            Asked::Unknown
-        }
-        Keyword::Other(_) => Asked::Unknown,
-    }
-}
-
 // The list of a step: the numbers after its first two.
 pub fn list_of(values: &[u16]) -> &[u16]
     ensures { result.now ≡ drop 2 values.now }
 {
-    if values.len() < 2 {
-        return &values[0..0];
+    values.get(2..).unwrap_or(&[])
+}
+
+// The step that the word and the numbers ask for.
+pub fn step_of<'a>(word: &[u8], values: &'a [u16]) -> Result<Step<'a>, NotUnderstood>
+    ensures { option_map of_rules (result_ok result) ≡ asks_for word.now values.now }
+{
+    match keyword_of(word) {
+        Ok(Keyword::Step(kind)) if takes_numbers(shape_of(kind), values.len()) => {
+            let task = values.get(0).copied().unwrap_or(0);
+            let other = values.get(1).copied().unwrap_or(0);
+            Ok(step_by(kind, task, other, list_of(values)))
+        }
+        _ => Err(NotUnderstood),
     }
-    &values[2..]
 }

@@ -1,8 +1,7 @@
-// Printing: names, numbers, answers and words, on an output. A write that fails is passed over.
-ghost use Rattle.std.specs.Prelude.{◌+◌, ◌≤◌, ◌<◌, length};
-
+// Printing: names, numbers, answers and words, on an output. A write that fails is passed over, and what comes after it
+// is written all the same: so each piece is a write of its own, and no value has a Display that would end at the first.
 use answer_words::layout;
-use rules::{Answer, Part};
+use rules::Answer;
 use std::io::Write;
 
 // The bytes as they are.
@@ -17,24 +16,20 @@ pub fn not_understood<W: Write>(output: &mut W, name: &[u8]) {
 }
 
 // A blank and a number.
-pub fn number<W: Write>(output: &mut W, w: u16) {
-    let _ = write!(output, " {w}");
-}
-
-// A value, where there is one.
-fn part<W: Write>(output: &mut W, p: Part) {
-    if p.told {
-        number(output, p.value);
-    }
+pub fn number<W: Write>(output: &mut W, value: u16) {
+    let _ = write!(output, " {value}");
 }
 
 // The answer's number and its values.
-pub fn answer<W: Write>(output: &mut W, a: Answer) {
-    let l = layout(a);
-    number(output, l.number);
-    part(output, l.first);
-    part(output, l.second);
-    part(output, l.third);
+pub fn answer<W: Write>(output: &mut W, answer: Answer) {
+    let layout = layout(answer);
+    number(output, layout.number);
+    for part in [layout.first, layout.second, layout.third]
+        .into_iter()
+        .flatten()
+    {
+        number(output, part.value);
+    }
 }
 
 // The end of a step's line, which says whether every word was kept.
@@ -45,43 +40,26 @@ pub fn end_line<W: Write>(output: &mut W, kept: bool) {
     text(output, b"\n");
 }
 
-// How many words from index `from` on are the same as the one there.
-fn run_at(words: &[u16], from: usize) -> usize
-    requires { from < length words.now }
-    ensures { (0 < result) × (from + result ≤ length words.now) }
-{
-    let w = words[from];
-    let mut i = from + 1;
-    while i < words.len() {
-        if words[i] != w {
-            return i - from;
+// Words that are all the same; from six on, the word once with a star and the count.
+fn run<W: Write>(output: &mut W, words: &[u16]) {
+    match words {
+        [word, _, _, _, _, _, ..] => {
+            number(output, *word);
+            let times = words.len();
+            let _ = write!(output, "*{times}");
         }
-        i += 1;
-    }
-    i - from
-}
-
-// The word `w`, `n` times; from six times on with a star and the count.
-fn run<W: Write>(output: &mut W, w: u16, n: usize) {
-    if n < 6 {
-        let mut i = 0;
-        while i < n {
-            number(output, w);
-            i += 1;
+        _ => {
+            for word in words {
+                number(output, *word);
+            }
         }
-        return;
     }
-    number(output, w);
-    let _ = write!(output, "*{n}");
 }
 
 // A name, then all words.
 pub fn words<W: Write>(output: &mut W, name: &[u8], words: &[u16]) {
     text(output, name);
-    let mut i = 0;
-    while i < words.len() {
-        let n = run_at(words, i);
-        run(output, words[i], n);
-        i += n;
+    for same in words.chunk_by(|a, b| a == b) {
+        run(output, same);
     }
 }

@@ -1,9 +1,0 @@
--- The words so far are written.
-use Rattle.std.proofs.Common.{◌-◌, ◌≤◌}
-use Rattle.edges.proofs.read.put_times.Given as goal
-
-abbrev pub invariant-loop-i : goal.invariant-loop-i
-invariant-loop-i l = l.i ≤ l.n
-
-abbrev pub decreases-loop-i : goal.decreases-loop-i
-decreases-loop-i l = l.n - l.i
