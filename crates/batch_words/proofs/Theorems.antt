@@ -12,7 +12,7 @@ use Rattle.batch_record.specs.declared.Record.{Record}
 use Rattle.batch.specs.Batches.{CallOutcome, batched}
 use Rattle.batch_words.specs.Flat.{kind_of, records_of, is_flat, flatly, Flats}
 
--- any two outcomes that the contract of `batch_words` allows coincide
+-- any two outcomes that the contract of `registry_batch` allows coincide (of `batch_words`: `batch/Theorems.one_call`)
 pub flat_unique : {o : CallOutcome} {rs ws : List ℕ} {r r' : ℕ} {s s' : Tables} {rs₁ rs₂ ws₁ ws₂ : List ℕ}
     → Flats o rs ws r s rs₁ ws₁ → Flats o rs ws r' s' rs₂ ws₂
     → (r ≡ r') × (s ≡ s') × (rs₁ ≡ rs₂) × (ws₁ ≡ ws₂)

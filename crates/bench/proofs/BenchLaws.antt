@@ -4,6 +4,8 @@ use Rattle.std.proofs.Common.{◌≡◌, ℕ, suc, ◌+◌, ◌-◌, ◌^◌, �
 use Rattle.std.proofs.Common.{◌++◌, length, take, drop, sym, refl, ap, ◌∙◌, subst, append_assoc, append-nil}
 use Rattle.std.proofs.Common.{arith, length-append, length-drop, drop_of_length-le, length-take-le, Option}
 use Rattle.std.proofs.KnownBytes.{Appends-nil, Appends-trans, Consumes-nil, Consumes-trans}
+use Rattle.std.proofs.lemmas.List.{take_rest}
+use Rattle.std.proofs.Math.Seq.{take-add}
 use Rattle.std.specs.Io.KnownBytes.{Appends, Consumes}
 use native.Mathlib.Nat.{mod-add-mod}
 use Rattle.std.proofs.Common.{Result, Ok, Err, OnOk, is_ok, is_err, not, ◌&&◌}
@@ -22,8 +24,17 @@ use Rattle.line_serving.proofs.ServingLaws.{served_on, served_within}
 use Rattle.bench.specs.declared.State.{State}
 use Rattle.bench.specs.declared.Reading.{Reading}
 use Rattle.bench.specs.declared.Reading.TheVariants.{Open, Ended, Failed}
-use Rattle.bench.specs.Carrying.{wrapped, Waiting, At, Fed}
+use Rattle.bench.specs.Carrying.{SameLine, wrapped, Waiting, At, Fed}
 use Rattle.bench.specs.Running.{none, more, desk_after, RanTo, Runs, Opens, has_ended}
+
+-- ---- known bytes, written one after another
+
+-- what a write took of the rest follows what was taken before it
+pub appends_on : (u v w : Option (List ℕ)) (s : List ℕ) (at n : ℕ) → Appends u v (take at s)
+    → Appends v w (take n (take (length s - at) (drop at s))) → Appends u w (take (at + n) s)
+appends_on u v w s at n h k =
+    let z : Appends v w (take n (drop at s)) = rw (take_rest s at) at k in
+    rw (take-add at n s) (Appends-trans u v w (take at s) (take n (drop at s)) h z)
 
 -- ---- what waits in the output array
 
@@ -43,7 +54,7 @@ take_past (b ∷ s) t k =
 module _ (said : List ℕ) (s : State) (held holds : Option (List ℕ)) (w : Waiting said s held holds)
     (l : s.used ≤ length s.out) where
   -- what waited was put out, and the output took it
-  waits_put : (r : State) (now : Option (List ℕ)) → r.used ≡ 0 → r.put ≡ wrapped (s.put + s.used)
+  pub waits_put : (r : State) (now : Option (List ℕ)) → r.used ≡ 0 → r.put ≡ wrapped (s.put + s.used)
       → Appends holds now (take s.used s.out) → Waiting said r held now
   waits_put r now p q t = record {
     gone = said;
@@ -82,12 +93,7 @@ module _ (said : List ℕ) (s : State) (held holds : Option (List ℕ)) (w : Wai
           ap (λ (z : List ℕ). z ++ take k u) w.rest ∙ append_assoc w.gone first (take k u)
           ∙ ap (λ (z : List ℕ). w.gone ++ z) now_there
 
--- the same line, tables and report: all that a desk knows of but the bytes that wait
-abbrev pub SameLine : State → State → Type 0
-SameLine s r =
-    (r.line ≡ s.line) × (r.have ≡ s.have) × (r.lines ≡ s.lines) × (r.session ≡ s.session) × (r.tasks ≡ s.tasks)
-    × (r.promises ≡ s.promises) × (r.report ≡ s.report) × (r.going ≡ s.going)
-
+-- the same line, tables and report are all that a desk knows of but the bytes that wait
 at_line : (d : Desk) (s r : State) (held holds now : Option (List ℕ)) → SameLine s r → Waiting d.said r held now
     → At d s held holds → At d r held now
 at_line d s r held holds now e w h = record {

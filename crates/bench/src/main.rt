@@ -6,7 +6,8 @@
 // That standard input and output bring and take the bytes is the system's, and held to stdout.
 #![tactic(auto)]
 
-ghost use Rattle.std.specs.Prelude.{◌≤◌};
+ghost use Rattle.std.specs.Prelude.{◌≤◌, OnOk};
+ghost use Rattle.std.specs.Io.KnownBytes.{Appends};
 
 use line_session::Session;
 use std::io;
@@ -25,7 +26,7 @@ pub enum Reading {
 // were answered, the session value with the tables and the report that it is lent, whether more lines are taken, the
 // output array with how many bytes wait in it, how many were handed to write before them, and what the last read said.
 // Whether lines are taken is a flag: no other field hangs on it.
-#[derive(Drop)]
+#[derive(Clone, Copy)]
 pub struct State {
     pub line: [u8; Limit::LINE],
     pub have: usize,
@@ -43,13 +44,28 @@ pub struct State {
     ghost waits_within: { used ≤ 32768 },
 }
 
+// Writes all of the bytes, or stops at the first write that takes none of them or fails, an interrupted one too, which
+// std's `write_all` would try again. This is the one place that writes.
+fn write_all<W: Write>(output: &mut W, bytes: &[u8]) -> io::Result<()>
+    ensures { OnOk result (Appends (W.contents output.old) (W.contents output.new) bytes.now) }
+{
+    let mut done = 0;
+    while done < bytes.len() {
+        match output.write(&bytes[done..])? {
+            0 => return Err(io::ErrorKind::WriteZero.into()),
+            n => done += n,
+        }
+    }
+    Ok(())
+}
+
 impl State {
     ghost use Rattle.std.specs.Prelude.{◌≡◌, ℕ, ◌+◌, ◌<◌, ◌&&◌, true, not, Option, List, length, is_ok, OnOk};
     ghost use Rattle.std.specs.Prelude.{OnErr, IfOk};
     ghost use Rattle.std.specs.Io.KnownBytes.{IsAtEnd};
     ghost use Rattle.words.specs.Words.{longest_answer};
     ghost use Rattle.line_serving.specs.Input.{Desk, feed, ended};
-    ghost use Rattle.bench.specs.Carrying.{At, Fed};
+    ghost use Rattle.bench.specs.Carrying.{SameLine, PutOut, At, Fed};
     ghost use Rattle.bench.specs.Running.{Opens, RanTo, Runs, Heard, Answers, has_ended};
 
     // Before the first line.
@@ -72,14 +88,15 @@ impl State {
         }
     }
 
-    // Puts out the answers that wait: this is the one place that writes. An error says that not all of them were taken.
+    // Puts out the answers that wait. An error says that not all of them were taken; the program goes on from the same
+    // place all the same, and they wait no more.
     fn put_out<W: Write>(&mut self, output: &mut W) -> io::Result<()>
-        ensures none_waits { self.new.used ≡ 0 }
+        ensures put { PutOut self.old self.new }
         ensures same { self.new.reading ≡ self.old.reading }
         ensures at { (d : Desk) (held : Option (List ℕ)) → At d self.old held (W.contents output.old)
             → OnOk result (At d self.new held (W.contents output.new)) }
     {
-        let taken = output.write_all(&self.out[..self.used]);
+        let taken = write_all(output, &self.out[..self.used]);
         self.put = self.put.wrapping_add(self.used as u64);
         self.used = 0;
         taken
@@ -88,10 +105,11 @@ impl State {
     // Sees that the output array has room for an answer line. What waited still waits, or was put out.
     fn make_room<W: Write>(&mut self, output: &mut W) -> io::Result<()>
         ensures room { self.new.used + longest_answer ≤ 32768 }
+        ensures line { SameLine self.old self.new }
+        ensures same { self.new.reading ≡ self.old.reading }
         ensures at { (d : Desk) (held : Option (List ℕ)) → At d self.old held (W.contents output.old)
             → OnOk result (At d self.new held (W.contents output.new)) }
-        ensures same { self.new.reading ≡ self.old.reading }
-        ensures closed { OnErr result (self.new.used ≡ 0) }
+        ensures closed { OnErr result (PutOut self.old self.new) }
     {
         if self.out.len() - self.used < Limit::ANSWER {
             return self.put_out(output);
@@ -99,7 +117,8 @@ impl State {
         Ok(())
     }
 
-    // One line of the block from `from` on, or what there is of it. Answers where the next one starts.
+    // One line of the block from `from` on, or what there is of it: also where making room for its answer failed.
+    // Answers where the next one starts.
     fn serve_line<W: Write>(
         &mut self,
         output: &mut W,
@@ -112,9 +131,8 @@ impl State {
             → At d self.old held (W.contents output.old)
             → IfOk result (λ next. Fed d block.now from next self.new held (W.contents output.new)) }
         ensures same { self.new.reading ≡ self.old.reading }
-        ensures closed { OnErr result (self.new.used ≡ 0) }
     {
-        self.make_room(output)?;
+        let room = self.make_room(output);
         let out: &mut [u8] = &mut self.out;
         let served = line_serving::serve(
             block,
@@ -133,13 +151,12 @@ impl State {
         self.session = served.session;
         self.going = served.going;
         self.used += served.bytes;
+        room?;
         Ok(served.next)
     }
 
-    // Every line of a block, while lines are taken, and then puts out the answers that wait. Wherever the program was,
-    // it is after the block where the bytes taken one by one lead.
-    fn serve_block<W: Write>(&mut self, output: &mut W, block: &[u8]) -> io::Result<()>
-        ensures none_waits { self.new.used ≡ 0 }
+    // Every line of a block, while lines are taken and the output takes their answers.
+    fn serve_lines<W: Write>(&mut self, output: &mut W, block: &[u8]) -> io::Result<()>
         ensures same { self.new.reading ≡ self.old.reading }
         ensures at { (d : Desk) (held : Option (List ℕ)) → At d self.old held (W.contents output.old)
             → OnOk result (At (feed d block.now) self.new held (W.contents output.new)) }
@@ -149,7 +166,21 @@ impl State {
         while self.going && from < block.len() {
             from = self.serve_line(output, block, from)?;
         }
-        self.put_out(output)
+        Ok(())
+    }
+
+    // The lines of a block, and then puts out the answers that wait: after a failed write that of the line at hand.
+    // Wherever the program was, it is after the block where the bytes taken one by one lead.
+    fn serve_block<W: Write>(&mut self, output: &mut W, block: &[u8]) -> io::Result<()>
+        ensures none_waits { self.new.used ≡ 0 }
+        ensures same { self.new.reading ≡ self.old.reading }
+        ensures at { (d : Desk) (held : Option (List ℕ)) → At d self.old held (W.contents output.old)
+            → OnOk result (At (feed d block.now) self.new held (W.contents output.new)) }
+    {
+        let served = self.serve_lines(output, block);
+        let put = self.put_out(output);
+        served?;
+        put
     }
 
     // The input ended. A last line without LF is served as if it had one.

@@ -1,3 +1,4 @@
+pub mod BoardLaws
 pub mod ReadLaws
 pub mod Reading
 pub mod Parts

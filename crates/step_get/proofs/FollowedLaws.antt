@@ -51,6 +51,11 @@ module _ (s : Tables) (t p : ℕ) {rs : List ℕ} where
     unfolding got
     got_set e = rw (eq-eqb w set_word e) (record { answer = refl; after = refl; report = sym (over_none rs) })
 
+    pub got_blamed : w ≢ set_word → B ≤ w → Gives (got B s t p w) rs (Blamed (w - B)) s rs
+    unfolding got
+    got_blamed n h =
+        rw (ne_eqb w set_word n, le-leb B w h) (record { answer = refl; after = refl; report = sym (over_none rs) })
+
     pub got_followed : {a : Answer} {s' : Tables} {rs' : List ℕ} → w ≢ set_word → w < B
         → Gives (followed s t p (walk_from s t (w - first_owned))) rs a s' rs' → Gives (got B s t p w) rs a s' rs'
     unfolding got
@@ -58,12 +63,10 @@ module _ (s : Tables) (t p : ℕ) {rs : List ℕ} where
 
   -- w is the promise's word, of the small form
   module _ (w : ℕ) where
-    pub got_blamed : {b : ℕ} → w ≡ blamed_on small.base b → Gives (got small.base s t p w) rs (Blamed b) s rs
-    unfolding got
-    got_blamed {b} e =
+    pub got_blamed_on : {b : ℕ} → w ≡ blamed_on small.base b → Gives (got small.base s t p w) rs (Blamed b) s rs
+    got_blamed_on {b} e =
         let value : w - small.base ≡ b = omega arith in
-        rw (ne_eqb w set_word (λ (z : w ≡ set_word). omega arith), le-leb small.base w (omega arith), value)
-        (record { answer = refl; after = refl; report = sym (over_none rs) })
+        rw (← value) (got_blamed small.base w (λ (z : w ≡ set_word). omega arith) (omega arith))
 
     -- neither set nor blamed
     pub got_open : (state : PromiseState) {a : Answer} {s' : Tables} {rs' : List ℕ} → ReadsPromise w state

@@ -8,7 +8,7 @@ ghost use Rattle.words.specs.States.{ReadsPromise};
 ghost use Rattle.rules.specs.Refusals.{refused_by, first, actor_rows, child_rows, new_rows, get_rows, own_rows};
 
 use rules::Refusal;
-use words::{PromiseState, TaskState};
+use words::{Limit, PromiseState, PromiseWord, TaskState};
 
 // Refusals 3, 4 and 5: the acting task.
 pub fn check_actor(tasks: &[u16], t: u16) -> Result<(), Refusal>
@@ -67,11 +67,16 @@ pub fn check_get(promises: &[u16], p: u16) -> Result<(), Refusal>
 pub fn check_own(promises: &[u16], t: u16, p: u16) -> Result<(), Refusal>
     ensures { refused_by result ≡ first (own_rows small.base promises.now t p) }
 {
-    match promise_at(promises, p)? {
+    let word = *promises.get(usize::from(p)).ok_or(Refusal::NoPromise)?;
+    // Asked first, and of the word itself: async asks it of each promise of its list. Where the state was read first, a
+    // list of 256 took two fifths longer.
+    if usize::from(t) < Limit::TASKS && word == PromiseWord::owned_by(t) {
+        return Ok(());
+    }
+    match PromiseState::from(word) {
         PromiseState::Unmade => Err(Refusal::NeverMade),
         PromiseState::Set => Err(Refusal::AlreadySet),
         PromiseState::Blamed(_) => Err(Refusal::Blamed),
-        PromiseState::Owned(owner) if owner == t => Ok(()),
         _ => Err(Refusal::NotOwner),
     }
 }

@@ -1,1 +1,2 @@
+pub mod LendingLaws
 pub mod NamedLaws

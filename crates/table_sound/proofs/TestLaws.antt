@@ -56,20 +56,20 @@ module _ (B : ℕ) (s : Tables) where
       (λ v. task_word_passes (length s.promises) (task_at s v) && chain_passes s v) (λ v z. both v)
       ∙ all_below_and (length s.tasks) (λ v. task_word_passes (length s.promises) (task_at s v)) (chain_passes s)
 
-  bad_task_word : words_of_tasks ≡ false → false ≡ sound_test B s
+  pub bad_task_word : words_of_tasks ≡ false → false ≡ sound_test B s
   unfolding sound_test
   bad_task_word e = rw (tasks_pass, e)
 
-  bad_promise_word : words_of_promises ≡ false → false ≡ sound_test B s
+  pub bad_promise_word : words_of_promises ≡ false → false ≡ sound_test B s
   unfolding sound_test
   bad_promise_word e = rw e (sym (and_false (all_below (length s.tasks) (task_passes s))))
 
   module _ (t : words_of_tasks ≡ true) (p : words_of_promises ≡ true) where
-    chains_decide : all_chains ≡ sound_test B s
+    pub chains_decide : all_chains ≡ sound_test B s
     unfolding sound_test
     chains_decide = rw (tasks_pass, t, p) (sym (and_true all_chains))
 
-    no_chains : every_word idle s.tasks ≡ true → true ≡ sound_test B s
+    pub no_chains : every_word idle s.tasks ≡ true → true ≡ sound_test B s
     unfolding chain_passes idle
     no_chains e =
         sym

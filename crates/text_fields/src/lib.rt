@@ -29,16 +29,14 @@ impl BadByte {
 pub fn run_end(bytes: &[u8], at: usize, stop: u8) -> usize
     ensures { result ≡ end_from stop bytes.now at }
 {
-    let Some(rest) = bytes.get(at..) else {
-        return at;
-    };
-    // Tried with `position` of an iterator: lines of 2,048 bytes took a fifth longer.
-    for (run, byte) in rest.iter().enumerate() {
-        if *byte == stop {
-            return at + run;
+    // Tried with `position` of an iterator: lines of 2,048 bytes took a fifth longer; with `enumerate`: lines of 20,000
+    // bytes took two fifths longer.
+    for end in at..bytes.len() {
+        if bytes[end] == stop {
+            return end;
         }
     }
-    bytes.len()
+    at.max(bytes.len())
 }
 
 // Where the field that starts at `at` ends: at the next tab, or at the line's end.

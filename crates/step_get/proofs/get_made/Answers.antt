@@ -1,12 +1,12 @@
 -- `step_get::get_made` meets its contract: each return is a law of `got`. Assumes nothing.
-use Rattle.step_get.proofs.FollowedLaws.{got_set, got_blamed, got_open}
+use Rattle.step_get.proofs.FollowedLaws.{got_set, got_blamed_on, got_open}
 use Rattle.step_get.proofs.get_made.Goals as goal
 
 pub returns-in-Set : goal.returns-in-Set
 returns-in-Set c = rw (← c.from.ensures, ← c.at.ensures) (got_set _ _ _ _ _ c.in-Set.ensures)
 
 pub returns-in-Blamed : goal.returns-in-Blamed
-returns-in-Blamed c = rw (← c.from.ensures, ← c.at.ensures) (got_blamed _ _ _ _ c.in-Blamed.ensures)
+returns-in-Blamed c = rw (← c.from.ensures, ← c.at.ensures) (got_blamed_on _ _ _ _ c.in-Blamed.ensures)
 
 pub returns-in_default : goal.returns-in_default
 returns-in_default c =

@@ -11,4 +11,4 @@ returns-clause-at g c =
     (λ t.
     at_put_out d c.args.self.now _ held _ _ (omega arith) (refl, refl, refl, refl, refl, refl, refl, refl) refl
     refl t h)
-    c.write_all-taken.ensures.bytes
+    c.write_all-taken.ensures

@@ -2,7 +2,7 @@
 use Rattle.std.proofs.Common.{◌≡◌, ◌-◌, length, Option, List, ℕ}
 use Rattle.line_serving.specs.Input.{Desk}
 use Rattle.bench.specs.Carrying.{At, Fed}
-use Rattle.bench.proofs.State.serve_block.Given as goal
+use Rattle.bench.proofs.State.serve_lines.Given as goal
 
 abbrev pub invariant-loop-self : goal.invariant-loop-self
 invariant-loop-self g l =
