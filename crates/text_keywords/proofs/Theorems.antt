@@ -3,11 +3,12 @@
 -- Assumes nothing.
 use Prim.Native.Nat.{ℕ, zero, suc, ◌≤◌}
 use mathlib.Core.List.{List, [], ◌∷◌}
-use mathlib.Core.Bool.{false}
+use mathlib.Core.Bool.{true, false}
 use mathlib.Core.Logic.{◌⊎◌, inl, inr}
 use mathlib.Core.Path.{◌≡◌, refl, ap, sym, subst, ◌∙◌}
 use native.Mathlib.Omega.{arith}
 use borrow.Author.Tests.{eq-eqb}
+use lib.Dec.{ltb}
 use lib.ListN.{length, take}
 use Rattle.words.proofs.BoolLaws.{true_is_not_false}
 use Rattle.step_kinds.specs.declared.Kind.{Kind}
@@ -35,6 +36,14 @@ each_at (later i) (cons p l) = each_at i l
 found : Each (λ w. keyword_of (text_of w) ≡ Ok w) keywords
 unfolding keywords text_of keyword_of lookup same
 found = cons refl (cons refl (cons refl (cons refl (cons refl (cons refl nil)))))
+
+-- no word's text is empty
+long : Each (λ w. ltb 0 (length (text_of w)) ≡ true) keywords
+unfolding keywords text_of
+long = cons refl (cons refl (cons refl (cons refl (cons refl (cons refl nil)))))
+
+pub text_not_empty : (w : Keyword) → On w keywords → ltb 0 (length (text_of w)) ≡ true
+text_not_empty w i = each_at i long
 
 -- a word's text is told as that word
 pub keyword_of_text : (w : Keyword) → On w keywords → keyword_of (text_of w) ≡ Ok w
