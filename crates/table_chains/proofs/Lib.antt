@@ -1,3 +1,4 @@
 pub mod ComesLaws
+pub mod EachBelow
 pub mod MarkLaws
 pub mod OneWayLaws

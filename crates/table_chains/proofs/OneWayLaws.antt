@@ -1,29 +1,38 @@
 -- Where every link leads to a task of a lower rank, no chain comes back, and each comes to a ready task. Assumes
 -- nothing.
 use Prim.Native.Nat.{ℕ, zero, suc, ◌+◌, ◌-◌, ◌≤◌, ◌<◌}
-use mathlib.Core.Path.{◌≡◌, sym, ap, subst, ◌∙◌}
+use mathlib.Core.Path.{◌≡◌, ap, ◌∙◌}
 use mathlib.Core.Logic.{◌⊎◌, inl, inr}
-use mathlib.Core.Bool.{Bool, true, false}
+use mathlib.Core.Bool.{true}
 use native.Mathlib.Omega.{arith}
-use native.Mathlib.Nat.{zero-add}
 use native.Mathlib.Decide.{dec_lt}
 use lib.ListN.{length}
-use Rattle.std.specs.Bool.{MatchBool}
-use Rattle.std.specs.List.{AllWithin, range_with_len}
-use Rattle.std.proofs.lemmas.List.FromFn.{length-range_with_len, get_or-range_with_len}
-use Rattle.words.proofs.BoolLaws.{true_is_not_false}
-use Rattle.words.specs.Words.{ready_word, first_wait}
+use Rattle.words.specs.Words.{ready_word, first_wait, owned_by}
 use Rattle.words.specs.Lists.{all_below}
 use Rattle.words.proofs.ListLaws.{all_below_make}
-use Rattle.rules.specs.Tables.{Tables, task_at, Live}
+use Rattle.rules.specs.Tables.{Tables, task_at, promise_at, Live}
 use Rattle.rules.specs.Chains.{view}
 use Rattle.rules.specs.Sound.{hop, comes}
 use Rattle.rules.proofs.BoundsLaws.{live_waits, live_is}
 use Rattle.rules.proofs.SoundTest.{comes_in_time_lem}
-use Rattle.rules.proofs.WalkLaws.{hop_yes}
+use Rattle.rules.proofs.WalkLaws.{hop_yes, hop_to}
 use Rattle.table_chains.specs.Marks.{chain_passes, Leads, LeadsWithin}
 use Rattle.table_chains.proofs.ComesLaws.{comes_ready, comes_on}
 use Rattle.table_chains.proofs.MarkLaws.{idle_passes, waiting_passes}
+
+-- ---- the link of a waiting task, by the words: the word of the promise that it awaits, and the word of its owner
+
+pub leads_by_words : (s : Tables) (low high v u : ℕ) → first_wait ≤ task_at s v
+    → promise_at s (task_at s v - first_wait) ≡ owned_by u → u < length s.tasks → Live (task_at s u)
+    → low ≤ u → u < high → Leads s low high v
+unfolding hop
+leads_by_words s low high v u w o b l least most = record {
+  owner = u;
+  hops = hop_to (length s.tasks) (view s) (task_at s v) (task_at s v - first_wait) u (omega (arith, w)) o b;
+  alive = l;
+  least = least;
+  most = most;
+}
 
 module _ (s : Tables) (rank : ℕ → ℕ) where
   abbrev T : ℕ
@@ -96,13 +105,3 @@ module _ (s : Tables) where
         };
         lower = l.most;
       }
-
--- ---- what `all` says of the numbers below n, where it answers r
-
-pub each_below : (n : ℕ) (P : ℕ → Type 0) (Q : Type 0) (r : Bool)
-    → MatchBool r (AllWithin P (range_with_len 0 n) 0 (length (range_with_len 0 n))) Q → r ≡ true
-    → (v : ℕ) → v < n → P v
-each_below n P Q true h e v b =
-    let within : v < length (range_with_len 0 n) = omega (arith, length-range_with_len 0 n) in
-    subst P (get_or-range_with_len 0 n v 0 b ∙ zero-add v) (h v 0 (omega arith) within)
-each_below n P Q false h e v b = true_is_not_false (sym e)

@@ -12,7 +12,7 @@ ghost use Rattle.table_chains.specs.Marks.{Marked, MarksFor, chain_passes, Leads
 use std::ops::Range;
 use table_access::at;
 use table_hops::{Next, hop};
-use words::{Limit, TaskWord};
+use words::{Limit, PromiseWord, TaskWord};
 
 // Follows owners from task `v` and marks the tasks on the way with `v` + 1, to a ready task or to one with another
 // mark, whose chain is known to end well: whether the chain of `v` comes to a ready task.
@@ -72,23 +72,27 @@ fn marked_pass(tasks: &[u16], promises: &[u16]) -> bool
     chains_marked(tasks, promises, &mut marks)
 }
 
-// Whether task `v` does not wait, or a hop from it leads to a live task with a number among `owners`.
+// Whether task `v` does not wait, or a hop from it leads to a live task with a number among `owners`. A promise's word
+// below those of owners wraps to a number past every task, so that no test of its own is needed.
 fn leads_within(tasks: &[u16], promises: &[u16], v: usize, owners: Range<usize>) -> bool
     ensures { result ≡ true
         → LeadsWithin (tables tasks.now promises.now) owners.start owners.end v }
 {
-    if at(tasks, v) < TaskWord::FIRST_WAIT {
+    let Some(p) = at(tasks, v).checked_sub(TaskWord::FIRST_WAIT) else {
         return true;
-    }
-    match hop(tasks, promises, v) {
-        Next::Ready | Next::Lost => false,
-        Next::To(x) => owners.contains(&x)
-            && matches!(at(tasks, x), TaskWord::READY | TaskWord::FIRST_WAIT..),
-    }
+    };
+    let owned = usize::from(at(promises, usize::from(p)));
+    let x = owned.wrapping_sub(usize::from(PromiseWord::FIRST_OWNED));
+    owners.contains(&x) && matches!(at(tasks, x), TaskWord::READY | TaskWord::FIRST_WAIT..)
 }
 
 // Whether the chain of every waiting task comes to a ready task. Where all links lead to higher numbers, or all to
 // lower ones, no chain comes back, and no marks are needed.
+//
+// Not inlined, and the second time from the last task on: compiled so, no jump of the first two loops crosses a
+// multiple of 32 bytes or ends at one, wherever the function is put. Processors from Skylake to Cascade Lake take up
+// to twice as long for a loop with such a jump.
+#[inline(never)]
 pub fn chains_pass(tasks: &[u16], promises: &[u16]) -> bool
     requires { sizes_fit small (tables tasks.now promises.now) ≡ true }
     ensures { result ≡ all_below (length tasks.now)
@@ -96,6 +100,8 @@ pub fn chains_pass(tasks: &[u16], promises: &[u16]) -> bool
 {
     let count = tasks.len();
     (0..count).all(|v| leads_within(tasks, promises, v, v + 1..count))
-        || (0..count).all(|v| leads_within(tasks, promises, v, 0..v))
+        || (0..count)
+            .rev()
+            .all(|v| leads_within(tasks, promises, v, 0..v))
         || marked_pass(tasks, promises)
 }

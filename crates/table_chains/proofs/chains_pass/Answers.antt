@@ -8,7 +8,8 @@ use lib.ListN.{length}
 use Rattle.std.proofs.lemmas.Iterator.{cases_from_all, YieldsList-from_range}
 use Rattle.rules.specs.Tables.{tables}
 use Rattle.table_chains.specs.Marks.{LeadsWithin}
-use Rattle.table_chains.proofs.OneWayLaws.{all_lead_up, all_lead_down, each_below}
+use Rattle.table_chains.proofs.EachBelow.{each_below, road_down, each_below_down}
+use Rattle.table_chains.proofs.OneWayLaws.{all_lead_up, all_lead_down}
 use Rattle.table_chains.proofs.chains_pass.Goals as goal
 use Rattle.table_chains.proofs.chains_pass.Goals.{then-all, else-all}
 
@@ -27,7 +28,7 @@ returns-then-all-2 c =
       | else-all w ↦
           let P : ℕ → Type 0 = λ v. LeadsWithin lent 0 v v in
           let cases =
-          cases_from_all _ _ _ P (λ v. Unit {0}) w.all-else-all.ensures.ran road (λ x q k. search rules)
-          (λ x q k. tt) in
-          yes ∙ sym (all_lead_down lent (each_below count P _ _ cases (sym w.value-is ∙ yes)))
+          cases_from_all _ _ _ P (λ v. Unit {0}) w.all-else-all.ensures.ran (road_down count w.rev.ensures.source)
+          (λ x q k. search rules) (λ x q k. tt) in
+          yes ∙ sym (all_lead_down lent (each_below_down count P _ _ cases (sym w.value-is ∙ yes)))
     ]
